@@ -1,0 +1,3 @@
+// The contents of log entries, and the one list of reasons for which any call of the product refuses.
+pub mod kind;
+pub mod refusal;
