@@ -27,8 +27,8 @@ unfoldable pub rowAsked : (S mask i k : ℕ) → List ℕ → List ℕ → List 
 rowAsked S mask i zero statement row = []
 rowAsked S mask i (suc k) statement row =
     cond (bit mask i)
-      (record { seat = i; statement = statement; seal = take S row } ∷ rowAsked S mask (suc i) k statement (drop S row))
-      (rowAsked S mask (suc i) k statement row)
+    (record { seat = i; statement = statement; seal = take S row } ∷ rowAsked S mask (suc i) k statement (drop S row))
+    (rowAsked S mask (suc i) k statement row)
 
 module _ {L : ℕ} {R : Type 0} (k : Kind L R) (S n : ℕ) (leader : ℕ → ℕ) where
   abbrev pub bodyAsked : Certificate R (List ℕ) → List Question

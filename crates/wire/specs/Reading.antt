@@ -79,13 +79,17 @@ module _ {L : ℕ} {R : Type 0} (k : Kind L R) (S n : ℕ) where
       next (peelNumber 2 (at + 8) (height .1)) (λ pview.
       next (peelNumber 2 (at + 10) (pview .1)) (λ pturn.
       cond (lawfulNumbers (view .0) (turn .0) (height .0) (pview .0) (pturn .0))
-        (next (peelContent (at + 12) (pturn .1)) (λ content.
-          Ok (record {
-            rank = record { view = view .0; turn = turn .0 };
-            height = height .0;
-            parent = record { view = pview .0; turn = pturn .0 };
-            content = content .0 }, content .1)))
-        (Err (BadLayout at)))))))
+      (next (peelContent (at + 12) (pturn .1)) (λ content.
+      Ok (
+        record {
+          rank = record { view = view .0; turn = turn .0 };
+          height = height .0;
+          parent = record { view = pview .0; turn = pturn .0 };
+          content = content .0;
+        },
+        content .1,
+      )))
+      (Err (BadLayout at)))))))
 
   -- a certificate body: a block, a mask, the seals of its seats
   abbrev pub peelBody : (at : ℕ) → List ℕ → Read (Certificate R (List ℕ))
@@ -103,10 +107,10 @@ module _ {L : ℕ} {R : Type 0} (k : Kind L R) (S n : ℕ) where
   abbrev pub proposalOf : (total : ℕ) → Block R → List ℕ → List ℕ → Result (Parts R (List ℕ)) Refusal
   proposalOf total b seal rest =
       cond (eqb (b .height) 1)
-        (ended total (Proposal b seal None, rest))
-        (next (peelBody (13 + L + S) rest) (λ c.
-         next (ended total c) (λ parent.
-         cond (isParent b parent) (Ok (Proposal b seal (Some parent))) (Err (WrongParent (13 + L + S))))))
+      (ended total (Proposal b seal None, rest))
+      (next (peelBody (13 + L + S) rest) (λ c.
+      next (ended total c) (λ parent.
+      cond (isParent b parent) (Ok (Proposal b seal (Some parent))) (Err (WrongParent (13 + L + S))))))
 
   abbrev pub readProposal : (total : ℕ) → List ℕ → Result (Parts R (List ℕ)) Refusal
   readProposal total xs =

@@ -24,10 +24,18 @@ pub enum Parts<R, T> {
         seal: T,
     },
     // a seat's word that a view should end
-    Blame { seat: u8, view: u16, seal: T },
+    Blame {
+        seat: u8,
+        view: u16,
+        seal: T,
+    },
     Certified(Certificate<R, T>),
     // the seals of f + 1 blames of a view
-    Notice { view: u16, mask: u16, seals: T },
+    Notice {
+        view: u16,
+        mask: u16,
+        seals: T,
+    },
 }
 
 // A message that keeps the layout for its number of seats: only reading and the checked maker give one.
