@@ -3,3 +3,4 @@ pub mod Layout
 pub mod Masks
 pub mod Ranks
 pub mod Reading
+pub mod Same

@@ -1,0 +1,3 @@
+// One seat of the log: what it keeps, and what it does with each message, tick and offer.
+pub mod answer;
+pub mod state;
