@@ -1,0 +1,5 @@
+pub mod Committed
+pub mod History
+pub mod Run
+pub mod Setting
+pub mod Theorem
