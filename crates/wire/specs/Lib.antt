@@ -1,4 +1,5 @@
 pub mod Asked
+pub mod Lawful
 pub mod Layout
 pub mod Masks
 pub mod Ranks
