@@ -2,3 +2,4 @@
 pub mod block;
 pub mod message;
 pub mod rows;
+pub mod seats;
