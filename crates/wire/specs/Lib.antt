@@ -1,5 +1,6 @@
 pub mod Asked
 pub mod Layout
 pub mod Masks
+pub mod Meaning
 pub mod Ranks
 pub mod Reading
