@@ -3,5 +3,6 @@ pub mod block;
 pub(crate) mod fields;
 pub(crate) mod masks;
 pub mod message;
+pub mod ranks;
 pub mod rows;
 pub mod seats;
