@@ -23,7 +23,7 @@ use Rattle.wire.specs.Masks.{lawfulMask, quorum}
 use Rattle.wire.specs.Reading.{next, Read, peel, peelNumber, peelSeat, peelMask, sealsFit, peelSeals, contentOf, peelContent, peelBlock, peelBody}
 use Rattle.wire.specs.declared.block.Block.{Block}
 use Rattle.wire.specs.declared.message.Certificate.{Certificate}
-use Rattle.wire.proofs.Fields.{Gives, gives-ok, gives-err, gives-next, gives-if, gives-unless, next-forth, Peeled, peel-back, peel-forth, Spelt, number-back, number-forth, bytes-take, bytes-drop}
+use Rattle.wire.proofs.Steps.{Gives, gives-ok, gives-err, gives-next, gives-if, gives-unless, next-forth, Peeled, peel-back, peel-forth, Spelt, number-back, number-forth, bytes-take, bytes-drop}
 
 -- a seat
 pub record SeatFound (n : ℕ) (xs : List ℕ) (p : ℕ × List ℕ) : Type 0 where

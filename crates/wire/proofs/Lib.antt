@@ -1,3 +1,6 @@
 pub mod Bodies
-pub mod Fields
 pub mod OneForm
+pub mod Ones
+pub mod Peeling
+pub mod SealRows
+pub mod Steps

@@ -24,7 +24,7 @@ use Rattle.wire.specs.declared.block.Block.{Block}
 use Rattle.wire.specs.declared.message.Certificate.{Certificate}
 use Rattle.wire.specs.declared.message.Parts.{Parts}
 use Rattle.wire.specs.declared.message.Parts.the-variants.{Proposal, Vote, Blame, Certified, Notice}
-use Rattle.wire.proofs.Fields.{Gives, gives-ok, gives-err, gives-next, gives-if, gives-either, next-forth, Peeled, peel-back, peel-forth, Spelt, number-back, number-forth}
+use Rattle.wire.proofs.Steps.{Gives, gives-ok, gives-err, gives-next, gives-if, gives-either, next-forth, Peeled, peel-back, peel-forth, Spelt, number-back, number-forth}
 use Rattle.wire.proofs.Bodies.{seat-back, seat-forth, mask-back, mask-forth, seals-back, seals-forth, BlockFound, block-back, block-forth, BodyFound, body-back, body-forth}
 
 -- nothing was left
