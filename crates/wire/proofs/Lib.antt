@@ -1,0 +1,6 @@
+pub mod Bodies
+pub mod OneForm
+pub mod Ones
+pub mod Peeling
+pub mod SealRows
+pub mod Steps
