@@ -14,7 +14,7 @@ use Rattle.content.specs.declared.refusal.Refusal.{Refusal}
 use Rattle.content.specs.declared.refusal.Refusal.the-variants.{LastView}
 use Rattle.wire.specs.Masks.{countKept, maskKept, quorum, rowKept}
 use Rattle.wire.specs.Ranks.{atLeast, parentOf}
-use Rattle.wire.specs.Same.{sameBlock}
+use Rattle.wire.specs.Layout.{sameBlock}
 use Rattle.wire.specs.declared.block.Block.{Block}
 use Rattle.wire.specs.declared.message.Certificate.{Certificate}
 use Rattle.wire.specs.declared.message.Parts.{Parts}

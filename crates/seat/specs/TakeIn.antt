@@ -12,7 +12,7 @@ use Rattle.content.specs.Kinds.{Kind}
 use Rattle.content.specs.declared.refusal.Refusal.{Refusal}
 use Rattle.content.specs.declared.refusal.Refusal.the-variants.{Orphan, Rival, Full, Fork}
 use Rattle.wire.specs.Ranks.{below, parentOf}
-use Rattle.wire.specs.Same.{sameBlock}
+use Rattle.wire.specs.Layout.{sameBlock}
 use Rattle.wire.specs.declared.block.Block.{Block}
 use Rattle.wire.specs.declared.message.Certificate.{Certificate}
 use Rattle.shelf.specs.Blocks.{find, readBelow}

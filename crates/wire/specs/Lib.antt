@@ -5,4 +5,3 @@ pub mod Masks
 pub mod Meaning
 pub mod Ranks
 pub mod Reading
-pub mod Same
