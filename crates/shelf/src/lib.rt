@@ -1,9 +1,127 @@
 // The shelf: the certified blocks of one seat, over cells that the caller lends.
+ghost use mathlib.Core.Path.{_≡_};
+ghost use mathlib.Core.Bool.{cond, not};
+ghost use mathlib.Core.List.{List, [], _∷_, _++_};
+ghost use lib.ListN.{length, take};
+ghost use Rattle.std.specs.Options.{mapped};
+ghost use Rattle.std.specs.declared.result.Result.the-variants.{Ok, Err};
+ghost use Rattle.content.specs.declared.refusal.Refusal.the-variants.{Full, OutOfLimits};
+ghost use Rattle.shelf.specs.Blocks.{held, size, find, topTurn, readBelow};
+ghost use Rattle.shelf.specs.Cells.{emptyOver, hasRoom, withBlock, canTake, withFilled, behindSome};
+
+mod search;
+
+use crate::search::ancestor_of;
+use crate::search::first_of_rank;
+use crate::search::top_turn_of;
+use content::refusal::Refusal;
 use wire::block::Block;
+use wire::block::Rank;
 
 // A shelf over the caller's cells: the first `len` of them are its blocks, in the order in which they were stored.
 #[derive(Drop)]
 pub struct Shelf<'a, R> {
     cells: &'a mut [Block<R>],
     len: usize,
+}
+
+impl<'a, R: Copy> Shelf<'a, R> {
+    // An empty shelf over any cells.
+    pub fn new(cells: &'a mut [Block<R>]) -> Shelf<'a, R>
+        ensures { λ r. ⌜ r ≡ emptyOver (cells .entry) ⌝ }
+    {
+        Shelf { cells, len: 0 }
+    }
+
+    // How many blocks the shelf has room for.
+    pub fn size(&self) -> usize
+        ensures { λ r. ⌜ r ≡ size (now (self .entry)) ⌝ }
+    {
+        self.cells.len()
+    }
+
+    // The blocks, in the order in which they were stored.
+    pub fn blocks(&self) -> &[Block<R>]
+        ensures { λ r. ⌜ now r ≡ held (now (self .entry)) ⌝ }
+    {
+        let end = if self.len < self.cells.len() {
+            self.len
+        } else {
+            self.cells.len()
+        };
+        &self.cells[0..end]
+    }
+
+    // How many blocks the shelf holds.
+    pub fn len(&self) -> usize
+        ensures { λ r. ⌜ r ≡ length (held (now (self .entry))) ⌝ }
+    {
+        self.blocks().len()
+    }
+
+    // Whether no cell is free.
+    pub fn is_full(&self) -> bool
+        ensures { λ r. ⌜ r ≡ not (hasRoom (now (self .entry))) ⌝ }
+    {
+        self.len >= self.cells.len()
+    }
+
+    // Takes the first k cells as filled, whatever they hold: refused unless the shelf is empty and has k cells.
+    pub fn take_filled(&mut self, k: usize) -> Result<(), Refusal>
+        ensures answer { λ r. ⌜ r ≡ cond (canTake (now (self .entry)) k) (Ok tt) (Err OutOfLimits) ⌝ }
+        ensures shelf { λ _. ⌜ now (self .exit) ≡ cond (canTake (now (self .entry)) k) (withFilled (now (self .entry)) k) (now (self .entry)) ⌝ }
+    {
+        if self.len() == 0 && k <= self.cells.len() {
+            self.len = k;
+            Ok(())
+        } else {
+            Err(Refusal::OutOfLimits)
+        }
+    }
+
+    // Stores a block in the next cell: refused where none is free.
+    pub fn store(&mut self, block: Block<R>) -> Result<(), Refusal>
+        ensures answer { λ r. ⌜ r ≡ cond (hasRoom (now (self .entry))) (Ok tt) (Err Full) ⌝ }
+        ensures shelf { λ _. ⌜ now (self .exit) ≡ cond (hasRoom (now (self .entry))) (withBlock (now (self .entry)) block) (now (self .entry)) ⌝ }
+        ensures blocks { λ _. ⌜ held (now (self .exit)) ≡ cond (hasRoom (now (self .entry))) (held (now (self .entry)) ++ block ∷ []) (held (now (self .entry))) ⌝ }
+        ensures size { λ _. ⌜ size (now (self .exit)) ≡ size (now (self .entry)) ⌝ }
+    {
+        if self.len >= self.cells.len() {
+            return Err(Refusal::Full);
+        }
+        self.cells[self.len] = block;
+        self.len += 1;
+        Ok(())
+    }
+
+    // The block that stands for a rank: the first one stored with it.
+    pub fn find(&self, rank: Rank) -> Option<&Block<R>>
+        ensures { λ r. ⌜ mapped now r ≡ find rank (held (now (self .entry))) ⌝ }
+    {
+        first_of_rank(self.blocks(), rank)
+    }
+
+    // The highest turn of a view, if any block is of that view.
+    pub fn top_turn(&self, view: u16) -> Option<u16>
+        ensures { λ r. ⌜ r ≡ topTurn view (held (now (self .entry))) ⌝ }
+    {
+        top_turn_of(self.blocks(), view)
+    }
+
+    // Reads a height below a place: the block of that height which is the place's own or an ancestor of it. Nothing
+    // at the root, at a rank that is not here, at height 0 and above the place's own. A parent on the way that is
+    // missing, or is not exactly one height lower, is refused.
+    pub fn read_below(&self, place: Option<Rank>, height: u32) -> Result<Option<&Block<R>>, Refusal>
+        ensures { λ r. ⌜ behindSome r ≡ readBelow (held (now (self .entry))) place height ⌝ }
+    {
+        let Some(rank) = place else {
+            return Ok(None);
+        };
+        match self.find(rank) {
+            Some(block) if height > 0 && height <= block.height => {
+                Ok(Some(ancestor_of(self.blocks(), block, block.height - height)?))
+            }
+            _ => Ok(None),
+        }
+    }
 }

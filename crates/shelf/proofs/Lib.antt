@@ -1,0 +1,3 @@
+pub mod Ancestry
+pub mod Cells
+pub mod Scans
