@@ -9,9 +9,10 @@ use Rattle.std.specs.Orderings.{Decides}
 use Rattle.std.specs.declared.option.Option.the-variants.{Some}
 use Rattle.content.specs.declared.edit.EditRecord.{EditRecord}
 use Rattle.content.specs.Edits.{edits, editAt, editShown, stands}
-use Rattle.content.specs.Kinds.{Lawful, someIf}
+use Rattle.std.specs.Options.{whenTrue}
+use Rattle.content.specs.Kinds.{Lawful}
 use Rattle.content.specs.Numbers.{number, spell, number-spell}
-use Rattle.content.proofs.Contents.{decides-someIf}
+use Rattle.content.proofs.Contents.{decides-when}
 
 -- two numbers written over an array whose first byte is set
 pub written : (t m n : ℕ) (xs ys : List ℕ) → xs ≡ spell 8 m → ys ≡ spell 8 n → putMid 9 8 (putMid 1 8 (t ∷ replicate 16 0) xs) ys ≡ t ∷ (spell 8 m ++ spell 8 n)
@@ -26,4 +27,4 @@ editAt-shown e h k = made (e .tag) _ _ _ _ (number-spell 8 (e .first) h) (number
 
 pub stands-lawful : (e : EditRecord) → e .first < 2 ^ 64 → e .second < 2 ^ 64 → Decides (stands e) (Lawful edits e)
 stands-lawful e h k =
-    subst (λ (x : EditRecord). Decides (stands e) (someIf (stands x) x ≡ Some e)) (sym (editAt-shown e h k)) (decides-someIf (stands e) e)
+    subst (λ (x : EditRecord). Decides (stands e) (whenTrue (stands x) x ≡ Some e)) (sym (editAt-shown e h k)) (decides-when (stands e) e)

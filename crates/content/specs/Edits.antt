@@ -13,7 +13,8 @@ use Rattle.std.specs.declared.option.Option.the-variants.{Some}
 use Rattle.std.specs.declared.result.Result.{Result}
 use Rattle.std.specs.declared.result.Result.the-variants.{Ok, Err}
 use Rattle.std.proofs.shelf.Tests.{eqb-true, and-parts}
-use Rattle.content.specs.Kinds.{Bytes, Kind, someIf, someIf-is}
+use Rattle.std.specs.Options.{whenTrue}
+use Rattle.content.specs.Kinds.{Bytes, Kind, when-is}
 use Rattle.content.specs.Numbers.{number, spell, spell-all, bytes-take, bytes-drop}
 use Rattle.content.specs.declared.edit.Edit.{Edit}
 use Rattle.content.specs.declared.edit.Edit.the-variants.{Trim, Gain, Undo, Save}
@@ -59,11 +60,11 @@ abbrev pub editAt : List ℕ → EditRecord
 editAt xs = record { tag = getD xs 0 0; first = number (take 8 (drop 1 xs)); second = number (take 8 (drop 9 xs)) }
 
 abbrev pub editReads : List ℕ → Option EditRecord
-editReads xs = someIf (eqb (length xs) 17 && stands (editAt xs)) (editAt xs)
+editReads xs = whenTrue (eqb (length xs) 17 && stands (editAt xs)) (editAt xs)
 
 -- the laws that every kind of content owes
 pub edit-sized : (xs : List ℕ) (e : EditRecord) → editReads xs ≡ Some e → length xs ≡ 17
-edit-sized xs e h = eqb-true (length xs) 17 (and-parts _ _ (someIf-is _ _ e h .0) .0)
+edit-sized xs e h = eqb-true (length xs) 17 (and-parts _ _ (when-is _ _ e h .0) .0)
 
 pub edit-back : (xs : List ℕ) (e : EditRecord) → Bytes xs → editReads xs ≡ Some e → editShown e ≡ xs
 edit-back [] e h r = absurd (let l : 0 ≡ 17 = edit-sized [] e r in omega arith)
@@ -76,7 +77,7 @@ edit-back (x ∷ ys) e h r =
     let one = spell-all 8 (take 8 ys) (bytes-take 8 ys b) p in
     let two = spell-all 8 (take 8 (drop 8 ys)) (bytes-take 8 (drop 8 ys) (bytes-drop 8 ys b)) q in
     let parts = joins _ _ _ _ one (two ∙ take-all 8 (drop 8 ys) n) ∙ take-append-drop 8 ys in
-    ap editShown (sym (someIf-is _ _ e r .1)) ∙ ap (λ (zs : List ℕ). x ∷ zs) parts
+    ap editShown (sym (when-is _ _ e r .1)) ∙ ap (λ (zs : List ℕ). x ∷ zs) parts
   where
   joins : (xs ys us vs : List ℕ) → xs ≡ us → ys ≡ vs → xs ++ ys ≡ us ++ vs
   joins xs ys us vs p q = cc
