@@ -11,10 +11,10 @@ use lib.Ieee.{Float, binary64, ofBits, toBits, le, lt, ne}
 use Rattle.std.specs.declared.option.Option.{Option}
 use Rattle.std.specs.declared.option.Option.the-variants.{Some}
 use Rattle.std.specs.declared.result.Result.{Result}
-use Rattle.std.specs.declared.result.Result.the-variants.{Ok, Err}
+use Rattle.std.specs.declared.result.Result.the-variants.{Ok}
 use Rattle.std.proofs.shelf.Tests.{eqb-true, and-parts}
-use Rattle.std.specs.Options.{whenTrue}
-use Rattle.content.specs.Kinds.{Bytes, Kind, when-is}
+use Rattle.std.specs.Options.{okOr, whenTrue}
+use Rattle.content.specs.Kinds.{Bytes, Kind, next, readContent, when-is}
 use Rattle.content.specs.Numbers.{number, spell, spell-all, bytes-take, bytes-drop}
 use Rattle.content.specs.declared.edit.Edit.{Edit}
 use Rattle.content.specs.declared.edit.Edit.the-variants.{Trim, Gain, Undo, Save}
@@ -84,3 +84,35 @@ edit-back (x ∷ ys) e h r =
 
 abbrev pub edits : Kind 17 EditRecord
 edits = record { reads = editReads; shown = editShown; low = lit≤ tt; high = lit≤ tt; sized = edit-sized; back = edit-back }
+
+-- the edit of a tag and two numbers
+abbrev pub named : ℕ → Float → Float → Edit
+named tag x y = cond (eqb tag 0) (Trim x y) (cond (eqb tag 1) (Gain x y) (cond (eqb tag 2) Undo Save))
+
+-- a value that is content, if a test says yes
+abbrev pub okIf : {X : Type 0} → Bool → X → Result X Refusal
+okIf b x = okOr (whenTrue b x) (NoContent 0)
+
+-- the edit that a record stands for
+abbrev pub called : EditRecord → Edit
+called e = named (e .tag) (value (e .first)) (value (e .second))
+
+abbrev pub editOf : EditRecord → Result Edit Refusal
+editOf e = okIf (stands e) (called e)
+
+-- the record of an edit, which stands if the edit's numbers are lawful
+abbrev pub kept : Edit → EditRecord
+kept (Trim x y) = record { tag = 0; first = toBits binary64 x; second = toBits binary64 y }
+kept (Gain x y) = record { tag = 1; first = toBits binary64 x; second = toBits binary64 y }
+kept Undo = record { tag = 2; first = 0; second = 0 }
+kept Save = record { tag = 3; first = 0; second = 0 }
+
+abbrev pub recordOf : Edit → Result EditRecord Refusal
+recordOf e = okIf (stands (kept e)) (kept e)
+
+-- an edit from bytes, and its bytes
+abbrev pub editFrom : List ℕ → Result Edit Refusal
+editFrom xs = next (readContent edits xs) editOf
+
+abbrev pub editBytes : Edit → Result (List ℕ) Refusal
+editBytes e = next (recordOf e) (λ r. Ok (editShown r))

@@ -1,10 +1,15 @@
 // An edit of a recording: a trim, a gain, an undo or a save, in 17 bytes.
 ghost use mathlib.Core.Path.{_≡_};
+ghost use lib.Ieee.{binary64, toBits};
 ghost use lib.ListN.{length};
-ghost use Rattle.content.specs.Edits.{within, isSecond, isGain, below, isEdit, edits};
+ghost use Rattle.content.specs.Edits.{value, within, isSecond, isGain, below, isEdit, edits, named, called, kept, editOf, recordOf};
+ghost use Rattle.std.specs.Vec.{made};
+ghost use Rattle.std.specs.declared.result.Result.the-variants.{Ok};
 ghost use Rattle.content.specs.Numbers.{number};
 use crate::kind::Content;
+use crate::refusal::Refusal;
 use std::num::f64_from_bits_with_nan;
+use std::num::f64_to_bits_with_nan;
 
 // the longest recording, in seconds
 const LAST_SECOND: f64 = 86_400.0;
@@ -67,6 +72,14 @@ fn word(bytes: &[u8]) -> u64
     }
 }
 
+// The bits of a number, which give it back.
+fn bits_of(x: f64) -> u64
+    ensures answer { λ r. ⌜ r ≡ toBits binary64 x ⌝ }
+    ensures back { λ r. ⌜ value r ≡ x ⌝ }
+{
+    f64_to_bits_with_nan(x)
+}
+
 // Whether a tag and the bits of two numbers are an edit.
 fn is_edit(tag: u8, first: u64, second: u64) -> bool
     ensures { λ r. ⌜ r ≡ isEdit tag first second ⌝ }
@@ -79,9 +92,56 @@ fn is_edit(tag: u8, first: u64, second: u64) -> bool
     }
 }
 
+// The edit of a tag, one that stands.
+fn edit_named(tag: u8, x: f64, y: f64) -> Edit
+    ensures { λ r. ⌜ r ≡ named tag x y ⌝ }
+{
+    match tag {
+        0 => Edit::Trim(x, y),
+        1 => Edit::Gain(x, y),
+        2 => Edit::Undo,
+        _ => Edit::Save,
+    }
+}
+
+impl EditRecord {
+    // The edit that the record stands for.
+    pub fn edit(&self) -> Result<Edit, Refusal>
+        ensures answer { λ r. ⌜ r ≡ editOf (now (self .entry)) ⌝ }
+        ensures back { λ r. ⌜ made r (λ e. recordOf e ≡ Ok (now (self .entry))) ⌝ }
+    {
+        if !is_edit(self.tag, self.first, self.second) {
+            return Err(Refusal::NoContent { at: 0 });
+        }
+        Ok(edit_named(self.tag, f64_from_bits_with_nan(self.first), f64_from_bits_with_nan(self.second)))
+    }
+}
+
 impl Edit {
     // how many bytes an edit has
     pub const LEN: usize = 17;
+
+    // The record of the edit as it is, lawful or not.
+    fn kept(&self) -> EditRecord
+        ensures answer { λ r. ⌜ r ≡ kept (now (self .entry)) ⌝ }
+        ensures back { λ r. ⌜ called r ≡ now (self .entry) ⌝ }
+    {
+        match self {
+            Edit::Trim(x, y) => EditRecord { tag: 0, first: bits_of(*x), second: bits_of(*y) },
+            Edit::Gain(x, y) => EditRecord { tag: 1, first: bits_of(*x), second: bits_of(*y) },
+            Edit::Undo => EditRecord { tag: 2, first: 0, second: 0 },
+            Edit::Save => EditRecord { tag: 3, first: 0, second: 0 },
+        }
+    }
+
+    // The record to keep of the edit; refused if its numbers are unlawful.
+    pub fn record(&self) -> Result<EditRecord, Refusal>
+        ensures answer { λ r. ⌜ r ≡ recordOf (now (self .entry)) ⌝ }
+        ensures back { λ r. ⌜ made r (λ e. editOf e ≡ Ok (now (self .entry))) ⌝ }
+    {
+        let rec = self.kept();
+        if is_edit(rec.tag, rec.first, rec.second) { Ok(rec) } else { Err(Refusal::NoContent { at: 0 }) }
+    }
 }
 
 pub impl Content<{ Edit::LEN }> for Edit as EditContent {
