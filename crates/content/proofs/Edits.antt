@@ -1,5 +1,5 @@
 -- Lemmas on an edit's bytes and numbers.
-use Prim.Native.Nat.{ℕ, zero, suc, _<_, _^_}
+use Prim.Native.Nat.{ℕ, zero, suc, _<_, _≤_, _^_}
 use mathlib.Core.Path.{_≡_, refl, sym, ap, subst, _∙_}
 use mathlib.Core.Bool.{Bool, true, false, not}
 use lib.Dec.{T, eqb}
@@ -8,19 +8,25 @@ use lib.Ieee.Bits.{toBits-ofBits, ofBits-toBits}
 use mathlib.Core.List.{List, [], _∷_, _++_}
 use native.Mathlib.Omega.{arith}
 use borrow.Rule.Slice.PartMut.{putMid}
-use lib.ListN.{replicate}
+use lib.ListN.{length, take, replicate}
 use Rattle.std.specs.Orderings.{Decides}
+use Rattle.std.specs.declared.option.Option.{Option}
 use Rattle.std.specs.declared.option.Option.the-variants.{Some}
+use Rattle.std.specs.declared.result.Result.{Result}
 use Rattle.std.specs.declared.result.Result.the-variants.{Ok}
 use Rattle.content.specs.declared.edit.Edit.{Edit}
 use Rattle.content.specs.declared.edit.Edit.the-variants.{Trim, Gain, Undo, Save}
 use Rattle.content.specs.declared.edit.EditRecord.{EditRecord}
 use Rattle.std.proofs.shelf.Tests.{false≢true, and-parts, eqb-true, ne-eqb}
-use Rattle.content.specs.Edits.{edits, editAt, editShown, stands, value, within, isEdit, named, called, kept, okIf, editOf, recordOf}
-use Rattle.std.specs.Options.{whenTrue}
-use Rattle.content.specs.Kinds.{Lawful}
+use Rattle.content.specs.declared.refusal.Refusal.{Refusal}
+use Rattle.content.specs.declared.refusal.Refusal.the-variants.{NoContent}
+use Rattle.content.specs.Edits.{edits, editAt, editShown, stands, value, within, isEdit, named, called, kept, okIf, editOf, recordOf, editFrom, editBytes}
+use Rattle.std.proofs.shelf.Results.{made-weaker}
+use Rattle.std.specs.Options.{okOr, whenTrue}
+use Rattle.std.specs.Vec.{made}
+use Rattle.content.specs.Kinds.{Bytes, Lawful, next, readContent, writeAnswer, writeMemory}
 use Rattle.content.specs.Numbers.{number, spell, number-spell}
-use Rattle.content.proofs.Contents.{decides-when}
+use Rattle.content.proofs.Contents.{decides-when, read-back, written-front}
 
 -- two numbers written over an array whose first byte is set
 pub written : (t m n : ℕ) (xs ys : List ℕ) → xs ≡ spell 8 m → ys ≡ spell 8 n → putMid 9 8 (putMid 1 8 (t ∷ replicate 16 0) xs) ys ≡ t ∷ (spell 8 m ++ spell 8 n)
@@ -81,3 +87,19 @@ edit-back r e h k s c =
 
 pub record-back : (e : Edit) (r : EditRecord) → stands r ≡ true → called r ≡ e → editOf r ≡ Ok e
 record-back e r s c = ok-when (stands r) (called r) s ∙ ap Ok c
+
+pub bytes-of : (x : EditRecord) (e : Edit) → Ok x ≡ recordOf e → Ok (editShown x) ≡ editBytes e
+bytes-of x e h = ap (λ (q : Result EditRecord Refusal). next q (λ y. Ok (editShown y))) h
+
+-- an edit that was read has the bytes that it was read from
+pub bytes-back : (xs : List ℕ) (x : EditRecord) (r : Result Edit Refusal) → Bytes xs → readContent edits xs ≡ Ok x → made r (λ e. recordOf e ≡ Ok x) → made r (λ e. editBytes e ≡ Ok xs)
+bytes-back xs x r b h m =
+    made-weaker r _ _ (λ e k. sym (bytes-of x e (sym k)) ∙ ap Ok (read-back edits xs x b h)) m
+
+-- an edit's bytes are read as that edit
+pub shown-back : (x : EditRecord) (e : Edit) → Lawful edits x → editOf x ≡ Ok e → editFrom (editShown x) ≡ Ok e
+shown-back x e l h = ap (λ (o : Option EditRecord). next (okOr o (NoContent 0)) editOf) l ∙ h
+
+pub written-back : (x : EditRecord) (e : Edit) (mem out : List ℕ) (r : Result ℕ Refusal) → Lawful edits x → editOf x ≡ Ok e → 17 ≤ length mem → r ≡ writeAnswer 17 (Ok (editShown x)) mem → out ≡ writeMemory 17 (Ok (editShown x)) mem → made r (λ n. editFrom (take n out) ≡ Ok e)
+written-back x e mem out r l h n a m =
+    made-weaker r _ _ (λ k q. ap editFrom q ∙ shown-back x e l h) (written-front 17 (editShown x) mem out r n refl a m)

@@ -1,3 +1,3 @@
 mod Edits
-mod Contents
+pub mod Contents
 pub mod Numbers

@@ -1,12 +1,15 @@
 // An edit of a recording: a trim, a gain, an undo or a save, in 17 bytes.
 ghost use mathlib.Core.Path.{_≡_};
 ghost use lib.Ieee.{binary64, toBits};
-ghost use lib.ListN.{length};
-ghost use Rattle.content.specs.Edits.{value, within, isSecond, isGain, below, isEdit, edits, named, called, kept, editOf, recordOf};
+ghost use lib.ListN.{length, take};
+ghost use Rattle.content.specs.Edits.{value, within, isSecond, isGain, below, isEdit, edits, named, called, kept, editOf, recordOf, editFrom, editBytes};
+ghost use Rattle.content.specs.Kinds.{Lawful, writeAnswer, writeMemory};
 ghost use Rattle.std.specs.Vec.{made};
 ghost use Rattle.std.specs.declared.result.Result.the-variants.{Ok};
 ghost use Rattle.content.specs.Numbers.{number};
 use crate::kind::Content;
+use crate::kind::read_content;
+use crate::kind::write_content;
 use crate::refusal::Refusal;
 use std::num::f64_from_bits_with_nan;
 use std::num::f64_to_bits_with_nan;
@@ -138,9 +141,32 @@ impl Edit {
     pub fn record(&self) -> Result<EditRecord, Refusal>
         ensures answer { λ r. ⌜ r ≡ recordOf (now (self .entry)) ⌝ }
         ensures back { λ r. ⌜ made r (λ e. editOf e ≡ Ok (now (self .entry))) ⌝ }
+        ensures lawful { λ r. ⌜ made r (λ e. Lawful edits e) ⌝ }
     {
         let rec = self.kept();
         if is_edit(rec.tag, rec.first, rec.second) { Ok(rec) } else { Err(Refusal::NoContent { at: 0 }) }
+    }
+
+    // The edit of these bytes.
+    pub fn from_bytes(src: &[u8]) -> Result<Edit, Refusal>
+        ensures answer { λ r. ⌜ r ≡ editFrom (now (src .entry)) ⌝ }
+        ensures back { λ r. ⌜ made r (λ e. editBytes e ≡ Ok (now (src .entry))) ⌝ }
+    {
+        let rec = read_content::<{ Edit::LEN }, Edit>(src)?;
+        rec.edit()
+    }
+
+    // Writes the edit's bytes to the front of `out`, and says how many.
+    pub fn write(&self, out: &mut [u8]) -> Result<usize, Refusal>
+        ensures answer { λ r. ⌜ r ≡ writeAnswer 17 (editBytes (now (self .entry))) (now (out .entry)) ⌝ }
+        ensures memory { λ _. ⌜ now (out .exit) ≡ writeMemory 17 (editBytes (now (self .entry))) (now (out .entry)) ⌝ }
+        ensures back { λ r. ⌜ made r (λ n. editFrom (take n (now (out .exit))) ≡ Ok (now (self .entry))) ⌝ }
+    {
+        if out.len() < Edit::LEN {
+            return Err(Refusal::SmallOutbox);
+        }
+        let rec = self.record()?;
+        write_content::<{ Edit::LEN }, Edit>(&rec, out)
     }
 }
 
