@@ -1,1 +1,3 @@
+mod Edits
+pub mod Contents
 pub mod Numbers
