@@ -71,11 +71,17 @@ module _ {L S : ℕ} {R : Type 0} (k : Kind L R) (w : Setting) where
   -- the seat after it: a refused call leaves it as it was
   abbrev pub after : ℕ → Call → Desk S R → Desk S R
   after i (hand inbox room) d = record {
-      state = stateAfter (d .state) (outcome i (hand inbox room) d); blocks = blocksAfter (d .blocks) (outcome i (hand inbox room) d) }
+    state = stateAfter (d .state) (outcome i (hand inbox room) d);
+    blocks = blocksAfter (d .blocks) (outcome i (hand inbox room) d);
+  }
   after i (tick room) d = record {
-      state = stateAfter (d .state) (outcome i (tick room) d); blocks = blocksAfter (d .blocks) (outcome i (tick room) d) }
+    state = stateAfter (d .state) (outcome i (tick room) d);
+    blocks = blocksAfter (d .blocks) (outcome i (tick room) d);
+  }
   after i (offer content room) d = record {
-      state = stateAfter (d .state) (outcome i (offer content room) d); blocks = blocksAfter (d .blocks) (outcome i (offer content room) d) }
+    state = stateAfter (d .state) (outcome i (offer content room) d);
+    blocks = blocksAfter (d .blocks) (outcome i (offer content room) d);
+  }
   after i sent d = record { state = sentStep (d .state); blocks = d .blocks }
 
 module _ {L : ℕ} {R : Type 0} (S : ℕ) (k : Kind L R) (w : Setting) where

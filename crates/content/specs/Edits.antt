@@ -79,8 +79,8 @@ edit-back (x ∷ ys) e h r =
     let parts = joins _ _ _ _ one (two ∙ take-all 8 (drop 8 ys) n) ∙ take-append-drop 8 ys in
     ap editShown (sym (when-is _ _ e r .1)) ∙ ap (λ (zs : List ℕ). x ∷ zs) parts
   where
-  joins : (xs ys us vs : List ℕ) → xs ≡ us → ys ≡ vs → xs ++ ys ≡ us ++ vs
-  joins xs ys us vs p q = cc
+    joins : (xs ys us vs : List ℕ) → xs ≡ us → ys ≡ vs → xs ++ ys ≡ us ++ vs
+    joins xs ys us vs p q = cc
 
 abbrev pub edits : Kind 17 EditRecord
 edits = record { reads = editReads; shown = editShown; low = lit≤ tt; high = lit≤ tt; sized = edit-sized; back = edit-back }
