@@ -22,7 +22,7 @@ use Rattle.wire.specs.declared.message.Parts.the-variants.{Proposal, Vote, Blam
 use Rattle.wire.specs.declared.rows.SealRow.{SealRow}
 use Rattle.seat.specs.Parts.{isOn, leave, withBlamed, withBlames, withNote, withSpoiled, withVotes}
 use Rattle.seat.specs.Sends.{Outcome, Sending, Sends, nothing, relay, write, zeroSeal}
-use Rattle.seat.specs.TakeIn.{Verdict, heightOf, judgeIn, known, new, shelve}
+use Rattle.seat.specs.TakeIn.{heightOf, judgeIn, shelve}
 use Rattle.seat.specs.declared.answer.Word.{Word}
 use Rattle.seat.specs.declared.answer.Word.the-variants.{Idle, Noted, Accepted, Clash, Certified as SaysCertified, Counted, Left}
 use Rattle.seat.specs.declared.state.Note.{Note}
@@ -30,6 +30,8 @@ use Rattle.seat.specs.declared.state.Phase.{Phase}
 use Rattle.seat.specs.declared.state.Phase.the-variants.{On, Leaving}
 use Rattle.seat.specs.declared.state.State.{State}
 use Rattle.seat.specs.declared.state.Terms.{Terms}
+use Rattle.seat.specs.declared.taking.Verdict.{Verdict}
+use Rattle.seat.specs.declared.taking.Verdict.the-variants.{Known, New}
 
 -- the last view cannot be blamed
 abbrev pub lastView : ℕ
@@ -76,8 +78,8 @@ module _ {S : ℕ} {R : Type 0} where
 
   -- a certificate that was judged: a known one changes nothing; a new one is shelved and sent
   abbrev pub taken : State S R → List (Block R) → Certificate R (List ℕ) → Sending R → Verdict → Outcome S R
-  taken s bs c sending known = idle s bs
-  taken s bs c sending new = record {
+  taken s bs c sending Known = idle s bs
+  taken s bs c sending New = record {
     word = SaysCertified;
     height = heightOf s (c .block);
     sends = record { certificate = Some sending; message = None; blame = None };
@@ -122,8 +124,8 @@ module _ {S : ℕ} {R : Type 0} where
 
   -- the vote that completes a quorum makes a certificate; if its block is on the shelf already, the vote is only counted
   abbrev pub completed : State S R → List (Block R) → Certificate R (List ℕ) → Verdict → Outcome S R
-  completed s bs c known = counted s bs
-  completed s bs c new = taken s bs c (write (Certified c)) new
+  completed s bs c Known = counted s bs
+  completed s bs c New = taken s bs c (write (Certified c)) New
 
   -- the notice of a view from the blames kept for it
   abbrev pub noticeOf : ℕ → SealRow S → Parts R (List ℕ)

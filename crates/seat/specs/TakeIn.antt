@@ -19,11 +19,8 @@ use Rattle.shelf.specs.Blocks.{find, readBelow}
 use Rattle.seat.specs.Parts.{isOn, turnRises, withBest, withCommitted}
 use Rattle.seat.specs.declared.state.Best.{Best}
 use Rattle.seat.specs.declared.state.State.{State}
-
--- what is found before anything is changed: the block is on the shelf already, or it is new
-pub data Verdict : Type 0 where
-  known : Verdict
-  new : Verdict
+use Rattle.seat.specs.declared.taking.Verdict.{Verdict}
+use Rattle.seat.specs.declared.taking.Verdict.the-variants.{Known, New}
 
 module _ {R : Type 0} where
   -- the parent is the root, or on the shelf, one height lower
@@ -48,11 +45,11 @@ module _ {L : ℕ} {R : Type 0} (k : Kind L R) where
   abbrev pub isLast : Block R → Result (Option (Block R)) Refusal → Result Verdict Refusal
   isLast last (Err e) = Err e
   isLast last (Ok None) = Err Fork
-  isLast last (Ok (Some b)) = cond (sameBlock k b last) (Ok new) (Err Fork)
+  isLast last (Ok (Some b)) = cond (sameBlock k b last) (Ok New) (Err Fork)
 
   -- a new commit has the last one among its ancestors
   abbrev pub extends : List (Block R) → Option (Block R) → Block R → Result Verdict Refusal
-  extends bs None b = Ok new
+  extends bs None b = Ok New
   extends bs (Some last) b = isLast last (readBelow bs (parentOf b) (last .height))
 
 module _ {L S : ℕ} {R : Type 0} (k : Kind L R) where
@@ -61,14 +58,14 @@ module _ {L S : ℕ} {R : Type 0} (k : Kind L R) where
   judgeNew s bs cells b =
       cond (parentThere bs b)
       (cond (ltb (length bs) cells)
-      (cond (commits s b) (extends k bs (s .committed) b) (Ok new))
+      (cond (commits s b) (extends k bs (s .committed) b) (Ok New))
       (Err Full))
       (Err Orphan)
 
   -- a block whose rank is on the shelf: nothing new, or a rival
   abbrev pub judgeFound : State S R → List (Block R) → ℕ → Block R → Option (Block R) → Result Verdict Refusal
   judgeFound s bs cells b None = judgeNew s bs cells b
-  judgeFound s bs cells b (Some x) = cond (sameBlock k x b) (Ok known) (Err Rival)
+  judgeFound s bs cells b (Some x) = cond (sameBlock k x b) (Ok Known) (Err Rival)
 
   abbrev pub judgeIn : State S R → List (Block R) → ℕ → Block R → Result Verdict Refusal
   judgeIn s bs cells b = judgeFound s bs cells b (find (b .rank) bs)

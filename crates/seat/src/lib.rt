@@ -1,3 +1,4 @@
 // One seat of the log: what it keeps, and what it does with each message, tick and offer.
 pub mod answer;
 pub mod state;
+pub(crate) mod taking;
