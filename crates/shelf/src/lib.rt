@@ -6,12 +6,13 @@ ghost use lib.ListN.{length, take};
 ghost use Rattle.std.specs.Options.{mapped};
 ghost use Rattle.std.specs.declared.result.Result.the-variants.{Ok, Err};
 ghost use Rattle.content.specs.declared.refusal.Refusal.the-variants.{Full, OutOfLimits};
+ghost use Rattle.shelf.specs.Ancestry.{Grown, MayFollow, ReadsStay, ReadsAncestor};
 ghost use Rattle.shelf.specs.Blocks.{held, size, find, topTurn, readBelow};
 ghost use Rattle.shelf.specs.Cells.{emptyOver, hasRoom, withBlock, canTake, withFilled, behindSome};
 
 mod search;
 
-use crate::search::ancestor_of;
+use crate::search::block_below;
 use crate::search::first_of_rank;
 use crate::search::top_turn_of;
 use content::refusal::Refusal;
@@ -85,6 +86,8 @@ impl<'a, R: Copy> Shelf<'a, R> {
         ensures shelf { λ _. ⌜ now (self .exit) ≡ cond (hasRoom (now (self .entry))) (withBlock (now (self .entry)) block) (now (self .entry)) ⌝ }
         ensures blocks { λ _. ⌜ held (now (self .exit)) ≡ cond (hasRoom (now (self .entry))) (held (now (self .entry)) ++ block ∷ []) (held (now (self .entry))) ⌝ }
         ensures size { λ _. ⌜ size (now (self .exit)) ≡ size (now (self .entry)) ⌝ }
+        ensures grows { λ _. ⌜ (Grown (held (now (self .entry))) → MayFollow (held (now (self .entry))) block → Grown (held (now (self .exit)))) ⌝ }
+        ensures stays { λ _. ⌜ ReadsStay (held (now (self .entry))) (held (now (self .exit))) ⌝ }
     {
         if self.len >= self.cells.len() {
             return Err(Refusal::Full);
@@ -110,18 +113,11 @@ impl<'a, R: Copy> Shelf<'a, R> {
 
     // Reads a height below a place: the block of that height which is the place's own or an ancestor of it. Nothing
     // at the root, at a rank that is not here, at height 0 and above the place's own. A parent on the way that is
-    // missing, or is not exactly one height lower, is refused.
+    // missing, or is not exactly one height lower, is refused: never on a shelf that only grew by lawful blocks.
     pub fn read_below(&self, place: Option<Rank>, height: u32) -> Result<Option<&Block<R>>, Refusal>
-        ensures { λ r. ⌜ behindSome r ≡ readBelow (held (now (self .entry))) place height ⌝ }
+        ensures answer { λ r. ⌜ behindSome r ≡ readBelow (held (now (self .entry))) place height ⌝ }
+        ensures ancestor { λ r. ⌜ ReadsAncestor (held (now (self .entry))) place height (behindSome r) ⌝ }
     {
-        let Some(rank) = place else {
-            return Ok(None);
-        };
-        match self.find(rank) {
-            Some(block) if height > 0 && height <= block.height => {
-                Ok(Some(ancestor_of(self.blocks(), block, block.height - height)?))
-            }
-            _ => Ok(None),
-        }
+        block_below(self.blocks(), place, height)
     }
 }
