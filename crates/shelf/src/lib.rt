@@ -29,7 +29,8 @@ pub struct Shelf<'a, R> {
 impl<'a, R: Copy> Shelf<'a, R> {
     // An empty shelf over any cells.
     pub fn new(cells: &'a mut [Block<R>]) -> Shelf<'a, R>
-        ensures { λ r. ⌜ r ≡ emptyOver (cells .entry) ⌝ }
+        ensures shelf { λ r. ⌜ r ≡ emptyOver (cells .entry) ⌝ }
+        ensures blocks { λ r. ⌜ held r ≡ [] ⌝ }
     {
         Shelf { cells, len: 0 }
     }
@@ -45,11 +46,7 @@ impl<'a, R: Copy> Shelf<'a, R> {
     pub fn blocks(&self) -> &[Block<R>]
         ensures { λ r. ⌜ now r ≡ held (now (self .entry)) ⌝ }
     {
-        let end = if self.len < self.cells.len() {
-            self.len
-        } else {
-            self.cells.len()
-        };
+        let end = self.len.min(self.size());
         &self.cells[0..end]
     }
 
@@ -64,15 +61,16 @@ impl<'a, R: Copy> Shelf<'a, R> {
     pub fn is_full(&self) -> bool
         ensures { λ r. ⌜ r ≡ not (hasRoom (now (self .entry))) ⌝ }
     {
-        self.len >= self.cells.len()
+        self.len() >= self.size()
     }
 
     // Takes the first k cells as filled, whatever they hold: refused unless the shelf is empty and has k cells.
     pub fn take_filled(&mut self, k: usize) -> Result<(), Refusal>
         ensures answer { λ r. ⌜ r ≡ cond (canTake (now (self .entry)) k) (Ok tt) (Err OutOfLimits) ⌝ }
         ensures shelf { λ _. ⌜ now (self .exit) ≡ cond (canTake (now (self .entry)) k) (withFilled (now (self .entry)) k) (now (self .entry)) ⌝ }
+        ensures blocks { λ _. ⌜ held (now (self .exit)) ≡ cond (canTake (now (self .entry)) k) (take k (now (now (self .entry) .cells))) (held (now (self .entry))) ⌝ }
     {
-        if self.len() == 0 && k <= self.cells.len() {
+        if self.len() == 0 && k <= self.size() {
             self.len = k;
             Ok(())
         } else {
@@ -89,7 +87,7 @@ impl<'a, R: Copy> Shelf<'a, R> {
         ensures grows { λ _. ⌜ (Grown (held (now (self .entry))) → MayFollow (held (now (self .entry))) block → Grown (held (now (self .exit)))) ⌝ }
         ensures stays { λ _. ⌜ ReadsStay (held (now (self .entry))) (held (now (self .exit))) ⌝ }
     {
-        if self.len >= self.cells.len() {
+        if self.len >= self.size() {
             return Err(Refusal::Full);
         }
         self.cells[self.len] = block;

@@ -25,8 +25,8 @@ fn higher_turn(turn: u16, so_far: Option<u16>) -> u16
     ensures { λ r. ⌜ Some r ≡ higher turn «so_far» ⌝ }
 {
     match so_far {
-        Some(top) if turn < top => top,
-        _ => turn,
+        Some(top) => turn.max(top),
+        None => turn,
     }
 }
 
