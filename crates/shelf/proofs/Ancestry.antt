@@ -1,13 +1,14 @@
--- A grown shelf has every ancestor of its blocks, and storing changes nothing that could be read.
+-- Looking up after more was stored; steps from parent to parent; and that a grown shelf has every ancestor of its blocks.
 use Prim.Native.Nat.{ℕ, zero, suc, _+_, _-_, _<_, _≤_}
 use mathlib.Core.Path.{_≡_, refl, sym, ap, subst, _∙_}
 use mathlib.Core.Logic.{_⊎_, inl, inr}
 use mathlib.Core.Bool.{Bool, true, false, cond}
 use mathlib.Core.List.{List, [], _∷_, _++_}
+use native.Mathlib.Nat.{zero-add}
 use native.Mathlib.Omega.{arith}
 use lib.Dec.{eqb, ltb}
 use Rattle.std.proofs.shelf.Lists.{append-assoc, append-nil}
-use Rattle.std.proofs.shelf.Tests.{cases-bool, cond-true, cond-false, and-parts, eqb-true, eq-eqb, le-ltb, ne-eqb}
+use Rattle.std.proofs.shelf.Tests.{cases-bool, cond-true, cond-false, and-parts, eqb-true, eqb-false, ltb-false, eq-eqb, ne-eqb, le-ltb}
 use Rattle.std.specs.declared.option.Option.{Option}
 use Rattle.std.specs.declared.option.Option.the-variants.{Some, None}
 use Rattle.std.specs.declared.result.Result.{Result}
@@ -198,3 +199,26 @@ module _ {R : Type 0} where
       let low : k < up .0 .height = omega arith in
       let rest : (p : Block R) × Steps k bs (up .0) p × On bs p = steps-there k bs h (up .0) (on-from-find (b .parent) bs (up .0) (up .1 .0)) low in
       (rest .0, (up .0, up .1, rest .1), rest .2)
+
+  -- going on from where steps ended
+  pub steps-join : (j k : ℕ) (bs : List (Block R)) (b p q : Block R) → Steps j bs b p → Steps k bs p q → Steps (j + k) bs b q
+  steps-join zero k bs b p q s t = rw (zero-add k, s) t
+  steps-join (suc j) k bs b p q s t =
+      let e : suc (j + k) ≡ suc j + k = omega arith in
+      subst (λ n. Steps n bs b q) e (s .0, s .1, steps-join j k bs (s .0) p q (s .2) t)
+
+  -- so many steps end at one block
+  pub steps-same : (k : ℕ) (bs : List (Block R)) (b p q : Block R) → Steps k bs b p → Steps k bs b q → p ≡ q
+  steps-same k bs b p q s t = ok-same p q (sym (climb-from-steps k bs b p s) ∙ climb-from-steps k bs b q t)
+
+  -- ancestors of a block on the shelf are on it
+  pub steps-on : (k : ℕ) (bs : List (Block R)) (b p : Block R) → On bs b → Steps k bs b p → On bs p
+  steps-on zero bs b p on s = subst (On bs) s on
+  steps-on (suc k) bs b p on s = steps-on k bs (s .0) p (on-from-find (b .parent) bs (s .0) (s .1 .0)) (s .2)
+
+  -- a climb goes on from where steps ended
+  pub climb-join : (j k : ℕ) (bs : List (Block R)) (b p : Block R) → Steps j bs b p → climb (j + k) bs b ≡ climb k bs p
+  climb-join zero k bs b p s = rw zero-add (ap (climb k bs) s)
+  climb-join (suc j) k bs b p s =
+      let e : suc j + k ≡ suc (j + k) = omega arith in
+      ap (λ n. climb n bs b) e ∙ (climb-up (j + k) bs b (s .0) (lower-from-parent bs b (s .0) (s .1)) ∙ climb-join j k bs (s .0) p (s .2))

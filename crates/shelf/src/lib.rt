@@ -6,12 +6,13 @@ ghost use lib.ListN.{length, take};
 ghost use Rattle.std.specs.Options.{mapped};
 ghost use Rattle.std.specs.declared.result.Result.the-variants.{Ok, Err};
 ghost use Rattle.content.specs.declared.refusal.Refusal.the-variants.{Full, OutOfLimits};
+ghost use Rattle.shelf.specs.Ancestry.{Grown, MayFollow, ReadsStay, ReadsAncestor};
 ghost use Rattle.shelf.specs.Blocks.{held, size, find, topTurn, readBelow};
 ghost use Rattle.shelf.specs.Cells.{emptyOver, hasRoom, withBlock, canTake, withFilled, behindSome};
 
 mod search;
 
-use crate::search::ancestor_of;
+use crate::search::block_below;
 use crate::search::first_of_rank;
 use crate::search::top_turn_of;
 use content::refusal::Refusal;
@@ -28,7 +29,8 @@ pub struct Shelf<'a, R> {
 impl<'a, R: Copy> Shelf<'a, R> {
     // An empty shelf over any cells.
     pub fn new(cells: &'a mut [Block<R>]) -> Shelf<'a, R>
-        ensures { λ r. ⌜ r ≡ emptyOver (cells .entry) ⌝ }
+        ensures shelf { λ r. ⌜ r ≡ emptyOver (cells .entry) ⌝ }
+        ensures blocks { λ r. ⌜ held r ≡ [] ⌝ }
     {
         Shelf { cells, len: 0 }
     }
@@ -44,11 +46,7 @@ impl<'a, R: Copy> Shelf<'a, R> {
     pub fn blocks(&self) -> &[Block<R>]
         ensures { λ r. ⌜ now r ≡ held (now (self .entry)) ⌝ }
     {
-        let end = if self.len < self.cells.len() {
-            self.len
-        } else {
-            self.cells.len()
-        };
+        let end = self.len.min(self.size());
         &self.cells[0..end]
     }
 
@@ -63,15 +61,16 @@ impl<'a, R: Copy> Shelf<'a, R> {
     pub fn is_full(&self) -> bool
         ensures { λ r. ⌜ r ≡ not (hasRoom (now (self .entry))) ⌝ }
     {
-        self.len >= self.cells.len()
+        self.len() >= self.size()
     }
 
     // Takes the first k cells as filled, whatever they hold: refused unless the shelf is empty and has k cells.
     pub fn take_filled(&mut self, k: usize) -> Result<(), Refusal>
         ensures answer { λ r. ⌜ r ≡ cond (canTake (now (self .entry)) k) (Ok tt) (Err OutOfLimits) ⌝ }
         ensures shelf { λ _. ⌜ now (self .exit) ≡ cond (canTake (now (self .entry)) k) (withFilled (now (self .entry)) k) (now (self .entry)) ⌝ }
+        ensures blocks { λ _. ⌜ held (now (self .exit)) ≡ cond (canTake (now (self .entry)) k) (take k (now (now (self .entry) .cells))) (held (now (self .entry))) ⌝ }
     {
-        if self.len() == 0 && k <= self.cells.len() {
+        if self.len() == 0 && k <= self.size() {
             self.len = k;
             Ok(())
         } else {
@@ -85,8 +84,10 @@ impl<'a, R: Copy> Shelf<'a, R> {
         ensures shelf { λ _. ⌜ now (self .exit) ≡ cond (hasRoom (now (self .entry))) (withBlock (now (self .entry)) block) (now (self .entry)) ⌝ }
         ensures blocks { λ _. ⌜ held (now (self .exit)) ≡ cond (hasRoom (now (self .entry))) (held (now (self .entry)) ++ block ∷ []) (held (now (self .entry))) ⌝ }
         ensures size { λ _. ⌜ size (now (self .exit)) ≡ size (now (self .entry)) ⌝ }
+        ensures grows { λ _. ⌜ (Grown (held (now (self .entry))) → MayFollow (held (now (self .entry))) block → Grown (held (now (self .exit)))) ⌝ }
+        ensures stays { λ _. ⌜ ReadsStay (held (now (self .entry))) (held (now (self .exit))) ⌝ }
     {
-        if self.len >= self.cells.len() {
+        if self.len >= self.size() {
             return Err(Refusal::Full);
         }
         self.cells[self.len] = block;
@@ -110,18 +111,11 @@ impl<'a, R: Copy> Shelf<'a, R> {
 
     // Reads a height below a place: the block of that height which is the place's own or an ancestor of it. Nothing
     // at the root, at a rank that is not here, at height 0 and above the place's own. A parent on the way that is
-    // missing, or is not exactly one height lower, is refused.
+    // missing, or is not exactly one height lower, is refused: never on a shelf that only grew by lawful blocks.
     pub fn read_below(&self, place: Option<Rank>, height: u32) -> Result<Option<&Block<R>>, Refusal>
-        ensures { λ r. ⌜ behindSome r ≡ readBelow (held (now (self .entry))) place height ⌝ }
+        ensures answer { λ r. ⌜ behindSome r ≡ readBelow (held (now (self .entry))) place height ⌝ }
+        ensures ancestor { λ r. ⌜ ReadsAncestor (held (now (self .entry))) place height (behindSome r) ⌝ }
     {
-        let Some(rank) = place else {
-            return Ok(None);
-        };
-        match self.find(rank) {
-            Some(block) if height > 0 && height <= block.height => {
-                Ok(Some(ancestor_of(self.blocks(), block, block.height - height)?))
-            }
-            _ => Ok(None),
-        }
+        block_below(self.blocks(), place, height)
     }
 }

@@ -1,8 +1,8 @@
 // Searching a list of blocks by plain scans.
 ghost use mathlib.Core.Path.{_≡_};
 ghost use Rattle.std.specs.Options.{mapped};
-ghost use Rattle.shelf.specs.Blocks.{find, higher, topTurn, oneLower, climb};
-ghost use Rattle.shelf.specs.Cells.{behind};
+ghost use Rattle.shelf.specs.Blocks.{find, higher, topTurn, oneLower, climb, readBelow};
+ghost use Rattle.shelf.specs.Cells.{behind, behindSome};
 ghost use Rattle.std.specs.declared.option.Option.the-variants.{Some};
 use content::refusal::Refusal;
 use wire::block::Block;
@@ -25,8 +25,8 @@ fn higher_turn(turn: u16, so_far: Option<u16>) -> u16
     ensures { λ r. ⌜ Some r ≡ higher turn «so_far» ⌝ }
 {
     match so_far {
-        Some(top) if turn < top => top,
-        _ => turn,
+        Some(top) => turn.max(top),
+        None => turn,
     }
 }
 
@@ -54,7 +54,7 @@ fn parent_of<'b, R: Copy>(blocks: &'b [Block<R>], block: &Block<R>) -> Result<&'
 }
 
 // From a block to its parent, so many times.
-pub fn ancestor_of<'b, R: Copy>(
+fn ancestor_of<'b, R: Copy>(
     blocks: &'b [Block<R>],
     block: &'b Block<R>,
     steps: u32,
@@ -66,4 +66,17 @@ pub fn ancestor_of<'b, R: Copy>(
         at = parent_of(blocks, at)?;
     }
     Ok(at)
+}
+
+// The block of a height at or below a place.
+pub fn block_below<R: Copy>(blocks: &[Block<R>], place: Option<Rank>, height: u32) -> Result<Option<&Block<R>>, Refusal>
+    ensures { λ r. ⌜ behindSome r ≡ readBelow (now (blocks .entry)) place height ⌝ }
+{
+    let Some(rank) = place else {
+        return Ok(None);
+    };
+    match first_of_rank(blocks, rank) {
+        Some(block) if height > 0 && height <= block.height => Ok(Some(ancestor_of(blocks, block, block.height - height)?)),
+        _ => Ok(None),
+    }
 }
