@@ -2,5 +2,6 @@ pub mod Bodies
 pub mod OneForm
 pub mod Ones
 pub mod Peeling
+pub mod Places
 pub mod SealRows
 pub mod Steps

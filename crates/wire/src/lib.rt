@@ -6,3 +6,4 @@ pub mod message;
 pub mod ranks;
 pub mod rows;
 pub mod seats;
+pub mod writer;
