@@ -1,0 +1,5 @@
+use Rattle.wire.proofs.Places.{put-then}
+use Rattle.wire.proofs.writer.put_vote.Needs as need
+
+pub returns : need.returns
+returns g c = put-then (c .put-at .ensures) (put-then (c .put-block-at .ensures .bytes) (c .put .ensures))
