@@ -3,6 +3,8 @@ pub mod block;
 pub(crate) mod fields;
 pub(crate) mod masks;
 pub mod message;
+pub(crate) mod numbers;
 pub mod ranks;
+pub mod reader;
 pub mod rows;
 pub mod seats;
