@@ -17,6 +17,7 @@ use crate::fields::take_seat;
 use crate::fields::take_u16;
 use crate::fields::take_u32;
 use crate::message::Certificate;
+use crate::message::Message;
 use crate::message::Parts;
 use crate::numbers::lawful_numbers;
 use crate::seats::SeatCount;
@@ -223,4 +224,27 @@ fn read_proposal<'a, const L: usize, const S: usize, C: Content<L>>(
         seal,
         parent: Some(parent),
     })
+}
+
+fn read_parts<'a, const L: usize, const S: usize, C: Content<L>>(seats: SeatCount, bytes: &'a [u8]) -> Result<Parts<C::Record, &'a [u8]>, Refusal>
+    ensures { λ r. ⌜ plainly r ≡ readParts (C·Content .kind) S (seats .n) (now (bytes .entry)) ⌝ }
+{
+    let total = bytes.len();
+    match bytes {
+        [] => Err(Refusal::Short { at: 0 }),
+        [1, rest @ ..] => read_proposal::<L, S, C>(seats, total, rest),
+        [2, rest @ ..] => read_vote::<L, S, C>(seats, total, rest),
+        [3, rest @ ..] => read_blame::<L, S, C>(seats, total, rest),
+        [4, rest @ ..] => read_certified::<L, S, C>(seats, total, rest),
+        [5, rest @ ..] => read_notice::<L, S, C>(seats, total, rest),
+        _ => Err(Refusal::UnknownKind),
+    }
+}
+
+// Reads a message. Its seals are parts of the bytes.
+pub fn read<'a, const L: usize, const S: usize, C: Content<L>>(seats: SeatCount, bytes: &'a [u8]) -> Result<Message<'a, C::Record>, Refusal>
+    ensures value { λ r. ⌜ meant r ≡ readParts (C·Content .kind) S (seats .n) (now (bytes .entry)) ⌝ }
+{
+    let parts = read_parts::<L, S, C>(seats, bytes)?;
+    Ok(Message::of(parts))
 }
