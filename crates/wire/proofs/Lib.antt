@@ -1,3 +1,7 @@
-pub mod Peeling
+pub mod Bodies
+pub mod OneForm
 pub mod Ones
+pub mod Peeling
+pub mod Places
 pub mod SealRows
+pub mod Steps

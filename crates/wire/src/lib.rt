@@ -8,3 +8,4 @@ pub mod ranks;
 pub mod reader;
 pub mod rows;
 pub mod seats;
+pub mod writer;
