@@ -7,7 +7,7 @@ ghost use lib.ListN.{length};
 ghost use Rattle.std.specs.Vec.{made};
 ghost use Rattle.wire.specs.Meaning.{behind, behindBy, plainCertificate, plain, plainBody, plainly, meant};
 ghost use Rattle.wire.specs.Ranks.{sameRank};
-ghost use Rattle.wire.specs.Reading.{next, peelContent, peelBlock, peelBody, ended, readProposal, readVote, readBlame, readCertified, readNotice, readParts};
+ghost use Rattle.wire.specs.Reading.{next, peelContent, peelBlock, peelBody, ended, readProposal, readVote, readBlame, readCertified, readNotice, readKind, readParts};
 use crate::block::Block;
 use crate::block::Rank;
 use crate::fields::take_mask;
@@ -226,23 +226,43 @@ fn read_proposal<'a, const L: usize, const S: usize, C: Content<L>>(
     })
 }
 
-fn read_parts<'a, const L: usize, const S: usize, C: Content<L>>(seats: SeatCount, bytes: &'a [u8]) -> Result<Parts<C::Record, &'a [u8]>, Refusal>
-    ensures { λ r. ⌜ plainly r ≡ readParts (C·Content .kind) S (seats .n) (now (bytes .entry)) ⌝ }
+// The kind chooses the layout of the rest.
+fn read_kind<'a, const L: usize, const S: usize, C: Content<L>>(
+    seats: SeatCount,
+    kind: u8,
+    src: &'a [u8],
+) -> Result<Parts<C::Record, &'a [u8]>, Refusal>
+    requires { ⌜ 1 + length (now src) < 2 ^ 63 ⌝ }
+    ensures { λ r. ⌜ plainly r ≡ readKind (C·Content .kind) S (seats .n) (1 + length (now (src .entry))) kind (now (src .entry)) ⌝ }
 {
-    let total = bytes.len();
-    match bytes {
-        [] => Err(Refusal::Short { at: 0 }),
-        [1, rest @ ..] => read_proposal::<L, S, C>(seats, total, rest),
-        [2, rest @ ..] => read_vote::<L, S, C>(seats, total, rest),
-        [3, rest @ ..] => read_blame::<L, S, C>(seats, total, rest),
-        [4, rest @ ..] => read_certified::<L, S, C>(seats, total, rest),
-        [5, rest @ ..] => read_notice::<L, S, C>(seats, total, rest),
+    let total = 1 + src.len();
+    match kind {
+        1 => read_proposal::<L, S, C>(seats, total, src),
+        2 => read_vote::<L, S, C>(seats, total, src),
+        3 => read_blame::<L, S, C>(seats, total, src),
+        4 => read_certified::<L, S, C>(seats, total, src),
+        5 => read_notice::<L, S, C>(seats, total, src),
         _ => Err(Refusal::UnknownKind),
     }
 }
 
+fn read_parts<'a, const L: usize, const S: usize, C: Content<L>>(
+    seats: SeatCount,
+    bytes: &'a [u8],
+) -> Result<Parts<C::Record, &'a [u8]>, Refusal>
+    ensures { λ r. ⌜ plainly r ≡ readParts (C·Content .kind) S (seats .n) (now (bytes .entry)) ⌝ }
+{
+    match bytes {
+        [kind, rest @ ..] => read_kind::<L, S, C>(seats, *kind, rest),
+        [] => Err(Refusal::Short { at: 0 }),
+    }
+}
+
 // Reads a message. Its seals are parts of the bytes.
-pub fn read<'a, const L: usize, const S: usize, C: Content<L>>(seats: SeatCount, bytes: &'a [u8]) -> Result<Message<'a, C::Record>, Refusal>
+pub fn read<'a, const L: usize, const S: usize, C: Content<L>>(
+    seats: SeatCount,
+    bytes: &'a [u8],
+) -> Result<Message<'a, C::Record>, Refusal>
     ensures value { λ r. ⌜ meant r ≡ readParts (C·Content .kind) S (seats .n) (now (bytes .entry)) ⌝ }
 {
     let parts = read_parts::<L, S, C>(seats, bytes)?;
