@@ -5,6 +5,8 @@ ghost use mathlib.Core.Bool.{_&&_};
 ghost use lib.Dec.{eqb};
 ghost use lib.ListN.{length};
 ghost use Rattle.std.specs.Vec.{made};
+ghost use Rattle.wire.specs.Lawful.{LawfulParts};
+ghost use Rattle.wire.specs.Layout.{messageBytes};
 ghost use Rattle.wire.specs.Meaning.{behind, behindBy, plainCertificate, plain, plainBody, plainly, meant};
 ghost use Rattle.wire.specs.Ranks.{sameRank};
 ghost use Rattle.wire.specs.Reading.{next, peelContent, peelBlock, peelBody, ended, readProposal, readVote, readBlame, readCertified, readNotice, readKind, readParts};
@@ -250,7 +252,9 @@ fn read_parts<'a, const L: usize, const S: usize, C: Content<L>>(
     seats: SeatCount,
     bytes: &'a [u8],
 ) -> Result<Parts<C::Record, &'a [u8]>, Refusal>
-    ensures { λ r. ⌜ plainly r ≡ readParts (C·Content .kind) S (seats .n) (now (bytes .entry)) ⌝ }
+    ensures value { λ r. ⌜ plainly r ≡ readParts (C·Content .kind) S (seats .n) (now (bytes .entry)) ⌝ }
+    ensures back { λ r. ⌜ made r (λ m. messageBytes (C·Content .kind) (plain m) ≡ now (bytes .entry)) ⌝ }
+    ensures lawful { λ r. ⌜ made r (λ m. LawfulParts (C·Content .kind) S (seats .n) (plain m)) ⌝ }
 {
     match bytes {
         [kind, rest @ ..] => read_kind::<L, S, C>(seats, *kind, rest),
@@ -258,12 +262,14 @@ fn read_parts<'a, const L: usize, const S: usize, C: Content<L>>(
     }
 }
 
-// Reads a message. Its seals are parts of the bytes.
+// Reads a message. Its seals are parts of the bytes, and writing it gives these bytes again.
 pub fn read<'a, const L: usize, const S: usize, C: Content<L>>(
     seats: SeatCount,
     bytes: &'a [u8],
 ) -> Result<Message<'a, C::Record>, Refusal>
     ensures value { λ r. ⌜ meant r ≡ readParts (C·Content .kind) S (seats .n) (now (bytes .entry)) ⌝ }
+    ensures back { λ r. ⌜ made r (λ m. messageBytes (C·Content .kind) (plain (m .parts)) ≡ now (bytes .entry)) ⌝ }
+    ensures lawful { λ r. ⌜ made r (λ m. LawfulParts (C·Content .kind) S (seats .n) (plain (m .parts))) ⌝ }
 {
     let parts = read_parts::<L, S, C>(seats, bytes)?;
     Ok(Message::of(parts))
