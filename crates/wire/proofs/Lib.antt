@@ -1,4 +1,5 @@
 pub mod Bodies
+pub mod FirstByte
 pub mod OneForm
 pub mod Ones
 pub mod Peeling

@@ -46,6 +46,13 @@ pub struct Message<'a, R> {
 }
 
 impl<'a, R> Message<'a, R> {
+    // For what has been judged already.
+    pub(crate) fn of(parts: Parts<R, &'a [u8]>) -> Message<'a, R>
+        ensures { λ r. ⌜ r .parts ≡ parts .entry ⌝ }
+    {
+        Message { parts }
+    }
+
     pub fn parts(&self) -> &Parts<R, &'a [u8]>
         ensures { λ r. ⌜ now r ≡ now (self .entry) .parts ⌝ }
     {
