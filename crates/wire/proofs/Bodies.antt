@@ -66,7 +66,7 @@ mask-forth n at mask rest h l =
     next-forth _ (number-forth 2 at mask rest h) (cond-true (lawfulMask n mask) _ _ l)
 
 -- seals in a row
-fit-back : (S count at : ℕ) (xs : List ℕ)
+pub fit-back : (S count at : ℕ) (xs : List ℕ)
     → Gives (sealsFit S count at xs) (λ rest. (count * S ≤ length xs) × (rest ≡ drop (count * S) xs))
 unfolding sealsFit
 fit-back S zero at xs =

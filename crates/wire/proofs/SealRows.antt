@@ -3,8 +3,6 @@ use Prim.Native.Nat.{ℕ, zero, suc, _+_, _-_, _*_, _≤_, _<_}
 use mathlib.Core.Path.{_≡_, refl, sym, ap, _∙_}
 use mathlib.Core.Bool.{Bool, true, false, cond}
 use mathlib.Core.List.{List, [], _∷_}
-use native.Mathlib.Nat.{suc-mul}
-use native.Mathlib.Numerals.{add-one}
 use native.Mathlib.Omega.{arith}
 use lib.Dec.{ltb}
 use lib.ListN.{length, take, drop, length-drop}
@@ -14,6 +12,7 @@ use Rattle.std.specs.declared.result.Result.the-variants.{Ok, Err}
 use Rattle.content.specs.declared.refusal.Refusal.{Refusal}
 use Rattle.content.specs.declared.refusal.Refusal.the-variants.{Short}
 use Rattle.wire.specs.Reading.{Read, next, peel, peelSeals, sealsFit}
+use Rattle.wire.proofs.Bodies.{fit-back}
 
 -- a seal that does not fit ends the row
 pub seals-short : (S k i at : ℕ) (xs : List ℕ) (e : Refusal) → i < k → Err e ≡ peel S at xs → Err e ≡ sealsFit S (k - i) at xs
@@ -33,17 +32,13 @@ unfolding sealsFit
 seals-none S k i at xs l = let n : k - i ≡ 0 = omega arith in rw n
 
 -- a row that fits is as long as its seals
-pub seals-length : (S k at : ℕ) (xs rest : List ℕ) → sealsFit S k at xs ≡ Ok rest → length rest + k * S ≡ length xs
-unfolding sealsFit
-seals-length S zero at xs rest h = let e : xs ≡ rest = cc in rw e (omega arith)
-seals-length S (suc k) at xs rest h =
-    let r : sealsFit S k (at + S) (drop S xs) ≡ Ok rest → length rest + k * S ≡ length (drop S xs) = seals-length S k (at + S) (drop S xs) rest in
-    let n : suc k * S ≡ k * S + S = suc-mul k S in
-    let d : length (drop S xs) ≡ length xs - S = length-drop S xs in
-    grind (arith, tells)
+pub seals-length : (S k at : ℕ) (xs rest : List ℕ) → Ok rest ≡ sealsFit S k at xs → length rest + k * S ≡ length xs
+seals-length S k at xs rest h =
+    let fits = fit-back S k at xs rest (sym h) in
+    rw (fits .1, length-drop (k * S) xs) (omega (arith, fits .0))
 
 pub row-taken : (S k at : ℕ) (xs rest : List ℕ) → Ok rest ≡ sealsFit S k at xs → _≡_ {A = Read (List ℕ)} (Ok (take (length xs - length rest) xs, rest)) (peelSeals S k at xs)
 row-taken S k at xs rest h =
-    let n : length rest + k * S ≡ length xs = seals-length S k at xs rest (sym h) in
+    let n : length rest + k * S ≡ length xs = seals-length S k at xs rest h in
     let m : length xs - length rest ≡ k * S = omega arith in
     rw (← h, m)

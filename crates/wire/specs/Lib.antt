@@ -5,3 +5,4 @@ pub mod Masks
 pub mod Meaning
 pub mod Ranks
 pub mod Reading
+pub mod Writing

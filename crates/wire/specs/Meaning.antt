@@ -35,6 +35,10 @@ leftOf (Err e) = Err e
 abbrev pub plainCertificate : {R : Type 0} → Certificate R Slice → Certificate R (List ℕ)
 plainCertificate c = record { block = c .block; mask = c .mask; seals = c .seals .now }
 
+abbrev pub plainBody : {R : Type 0} → Result (Certificate R Slice) Refusal → Result (Certificate R (List ℕ)) Refusal
+plainBody (Ok c) = Ok (plainCertificate c)
+plainBody (Err e) = Err e
+
 abbrev pub plainParent : {R : Type 0} → Option (Certificate R Slice) → Option (Certificate R (List ℕ))
 plainParent None = None
 plainParent (Some c) = Some (plainCertificate c)

@@ -1,6 +1,6 @@
 // The fields of a message, each taken off the front of the bytes that are left. `at` is the offset of these bytes.
 ghost use mathlib.Core.Path.{_≡_};
-ghost use Prim.Native.Nat.{ℕ, _+_, _<_, _^_};
+ghost use Prim.Native.Nat.{ℕ, _+_, _<_, _≤_, _^_};
 ghost use lib.ListN.{length};
 ghost use Rattle.std.specs.Vec.{made};
 ghost use Rattle.wire.specs.Meaning.{behind, behindBy, bytesOf, leftOf};
@@ -82,6 +82,7 @@ pub(crate) fn take_seals<const S: usize>(
 ) -> Result<(&[u8], &[u8]), Refusal>
     requires { ⌜ at + length (now src) < 2 ^ 63 ⌝ }
     ensures value { λ r. ⌜ behindBy bytesOf r ≡ peelSeals S count at (now (src .entry)) ⌝ }
+    ensures left { λ r. ⌜ made r (λ p. length (p .1 .now) ≤ length (now (src .entry))) ⌝ }
 {
     let rest = behind_seals::<S>(count, src, at)?;
     let (row, _) = src.split_at(src.len() - rest.len());
