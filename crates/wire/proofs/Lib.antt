@@ -4,5 +4,6 @@ pub mod OneForm
 pub mod Ones
 pub mod Peeling
 pub mod Places
+pub mod RowsAsked
 pub mod SealRows
 pub mod Steps
