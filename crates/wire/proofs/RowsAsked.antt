@@ -86,3 +86,20 @@ module _ (accepts : ℕ → List ℕ → List ℕ → Bool) (S mask n i : ℕ) (
 
   pub going-end : Going accepts S mask n i statement row rest → n ≤ i → Ok tt ≡ judge accepts (rowAsked S mask 0 n statement row)
   going-end g h = ap (judge accepts) (sym (row-none S mask i n statement rest h)) ∙ g .same
+
+-- a first question and others: the seat and the body as the code has them, and as they are meant
+module _ (accepts : ℕ → List ℕ → List ℕ → Bool) (seat seat′ tag : ℕ) (body body′ seal : List ℕ) where
+  pub first-only : (r : Verdict) → seat ≡ seat′ → body ≡ body′ → r ≡ judge accepts (askedOne seat (tag ∷ body) seal ∷ [])
+      → r ≡ judge accepts (askedOne seat′ (tag ∷ body′) seal ∷ [])
+  first-only r p q a = rw (p, q) at a
+
+  pub first-no : (qs : List Question) (e : Refusal) → seat ≡ seat′ → body ≡ body′ → _≡_ {A = Verdict} (Err e) (judge accepts (askedOne seat (tag ∷ body) seal ∷ []))
+      → _≡_ {A = Verdict} (Err e) (judge accepts (askedOne seat′ (tag ∷ body′) seal ∷ qs))
+  first-no qs e p q a = after-no _ _ e _ (first-only (Err e) p q a)
+
+  pub first-yes : (qs qs′ : List Question) (r : Verdict) (now : ℕ → List ℕ → List ℕ → Bool) → seat ≡ seat′ → body ≡ body′ → qs ≡ qs′ → now ≡ accepts
+      → _≡_ {A = Verdict} (Ok tt) (judge accepts (askedOne seat (tag ∷ body) seal ∷ [])) → r ≡ judge now qs
+      → r ≡ judge accepts (askedOne seat′ (tag ∷ body′) seal ∷ qs′)
+  first-yes qs qs′ r now p q f k a h =
+      let g : r ≡ judge accepts qs′ = rw (k, f) at h in
+      g ∙ sym (after-yes _ _ _ (first-only (Ok tt) p q a))
