@@ -2,12 +2,13 @@
 -- message handed in, or a message that the call writes into the outbox.
 use Prim.Native.Nat.{ℕ, _+_}
 use mathlib.Core.Bool.{Bool, true, false, cond}
-use mathlib.Core.List.{List, [], _∷_, _++_}
-use lib.ListN.{length, take, drop, replicate}
+use mathlib.Core.List.{List}
+use lib.ListN.{replicate}
 use Rattle.std.specs.declared.option.Option.{Option}
 use Rattle.std.specs.declared.option.Option.the-variants.{Some, None}
 use Rattle.content.specs.Kinds.{Kind}
 use Rattle.wire.specs.Layout.{messageBytes}
+use Rattle.wire.specs.Writing.{messageSize, placed}
 use Rattle.wire.specs.declared.block.Block.{Block}
 use Rattle.wire.specs.declared.message.Certificate.{Certificate}
 use Rattle.wire.specs.declared.message.Parts.{Parts}
@@ -43,34 +44,45 @@ zeroSeal S = replicate S 0
 abbrev pub nothing : {R : Type 0} → Sends R
 nothing = record { certificate = None; message = None; blame = None }
 
+-- where the next message begins behind an item
+abbrev pub endOf : Option Item → ℕ
+endOf None = 0
+endOf (Some Inbox) = 0
+endOf (Some (Outbox from to)) = to
+
 module _ {L : ℕ} {R : Type 0} (k : Kind L R) where
-  -- the bytes that an item adds to the outbox
-  abbrev pub writes : Option (Sending R) → List ℕ
-  writes None = []
-  writes (Some relay) = []
-  writes (Some (write m)) = messageBytes k m
+  -- how many bytes of the outbox an item takes
+  abbrev pub sizeOf : Option (Sending R) → ℕ
+  sizeOf None = 0
+  sizeOf (Some relay) = 0
+  sizeOf (Some (write m)) = messageSize L m
 
-  -- what a call writes, from the start of the outbox, in the order of the items
-  abbrev pub written : Sends R → List ℕ
-  written t = writes (t .certificate) ++ (writes (t .message) ++ writes (t .blame))
+  -- a message is written at an offset, and everything else stays as it was
+  abbrev pub putItem : ℕ → Option (Sending R) → List ℕ → List ℕ
+  putItem from None outbox = outbox
+  putItem from (Some relay) outbox = outbox
+  putItem from (Some (write m)) outbox = placed outbox from (messageBytes k m)
 
-  -- the outbox after the call: later bytes are unchanged
+  -- the outbox after the call: what it writes stands from the start, in the order of the items
   abbrev pub outboxAfter : Sends R → List ℕ → List ℕ
-  outboxAfter t outbox = written t ++ drop (length (written t)) outbox
+  outboxAfter t outbox =
+      putItem (sizeOf (t .certificate) + sizeOf (t .message)) (t .blame)
+      (putItem (sizeOf (t .certificate)) (t .message)
+      (putItem 0 (t .certificate) outbox))
 
   -- where an item lies, if what is written before it ends at `from`
   abbrev pub itemAt : ℕ → Option (Sending R) → Option Item
   itemAt from None = None
   itemAt from (Some relay) = Some Inbox
-  itemAt from (Some (write m)) = Some (Outbox from (from + length (messageBytes k m)))
+  itemAt from (Some (write m)) = Some (Outbox from (from + messageSize L m))
 
   abbrev pub answerOf : {S : ℕ} → Outcome S R → Answer
   answerOf o = record {
     word = o .word;
     height = o .height;
     certificate = itemAt 0 (o .sends .certificate);
-    message = itemAt (length (writes (o .sends .certificate))) (o .sends .message);
-    blame = itemAt (length (writes (o .sends .certificate)) + length (writes (o .sends .message))) (o .sends .blame);
+    message = itemAt (sizeOf (o .sends .certificate)) (o .sends .message);
+    blame = itemAt (sizeOf (o .sends .certificate) + sizeOf (o .sends .message)) (o .sends .blame);
   }
 
   -- the bytes that an item sends, given the message that was handed in

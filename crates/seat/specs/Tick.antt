@@ -75,11 +75,14 @@ module _ {S : ℕ} {R : Type 0} where
 
 module _ {S : ℕ} {R : Type 0} (p : Terms) where
   -- a spoiled seat blames the view that it entered
+  abbrev pub enteredAt : State S R → List (Block R) → (spoiled : Bool) → Outcome S R
+  enteredAt s bs spoiled =
+      cond spoiled
+        (sending Blamed None (Some (ownBlame p s)) (withBlamed true s) bs)
+        (sending Entered None None s bs)
+
   abbrev pub entered : State S R → List (Block R) → Outcome S R
-  entered s bs =
-      cond (s .spoiled)
-      (sending Blamed None (Some (ownBlame p s)) (withBlamed true s) bs)
-      (sending Entered None None s bs)
+  entered s bs = enteredAt s bs (s .spoiled)
 
   -- after 2D + 1 ticks of leaving the next view is entered
   abbrev pub leavingTick : ℕ → State S R → List (Block R) → Outcome S R
@@ -96,6 +99,22 @@ module _ {S : ℕ} {R : Type 0} (p : Terms) where
   -- patience is over
   abbrev pub blameDue : State S R → Bool
   blameDue s = not (s .blamed) && leb (p .patience) (s .now - s .progress)
+
+  -- the blame of a seat whose patience is over, and the seat after it
+  abbrev pub blameOf : State S R → Option (Sending R)
+  blameOf s = cond (blameDue s) (Some (ownBlame p s)) None
+
+  abbrev pub afterBlame : State S R → State S R
+  afterBlame s = cond (blameDue s) (withBlamed true s) s
+
+  -- the vote that is due, and the seat after it
+  abbrev pub voteOf : State S R → Option (Note R) → Option (Sending R)
+  voteOf s None = None
+  voteOf s (Some note) = cond (voteDue s note) (Some (write (Vote (p .own) (note .block) (zeroSeal S)))) None
+
+  abbrev pub afterVote : State S R → Option (Note R) → State S R
+  afterVote s None = s
+  afterVote s (Some note) = cond (voteDue s note) (withNote (Some (votedFor note)) s) s
 
   -- the blame comes after the vote, if any
   abbrev pub blames : Word → Option (Sending R) → State S R → List (Block R) → Outcome S R

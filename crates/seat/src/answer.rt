@@ -1,4 +1,6 @@
 // What a call answers.
+ghost use mathlib.Core.Path.{_≡_};
+ghost use Rattle.seat.specs.Answers.{saying};
 
 // What a call did, in one word.
 #[derive(Clone, Copy, PartialEq, Eq, Debug)]
@@ -42,4 +44,19 @@ pub struct Answer {
     pub certificate: Option<Item>,
     pub message: Option<Item>,
     pub blame: Option<Item>,
+}
+
+impl Answer {
+    // Only a word: nothing is sent, nothing committed.
+    pub(crate) fn of(word: Word) -> Answer
+        ensures { λ r. ⌜ r ≡ saying word ⌝ }
+    {
+        Answer {
+            word,
+            height: 0,
+            certificate: None,
+            message: None,
+            blame: None,
+        }
+    }
 }

@@ -1,4 +1,6 @@
 // What a seat keeps.
+ghost use mathlib.Core.Path.{_≡_};
+ghost use Rattle.seat.specs.Parts.{isOn, leave, newRound, newState, withRound};
 use wire::block::Block;
 use wire::block::BlockClone;
 use wire::block::Rank;
@@ -70,4 +72,64 @@ pub struct State<const S: usize, R> {
     pub entered: u32,
     // a dispatch slip is out
     pub slip: bool,
+}
+
+impl<const S: usize, R: Copy> State<S, R> {
+    // How a seat begins.
+    pub fn new() -> State<S, R>
+        ensures { λ r. ⌜ r ≡ newState ⌝ }
+    {
+        State {
+            now: 0,
+            phase: Phase::On,
+            view: 0,
+            turn: 0,
+            lock: None,
+            best: None,
+            round: Round {
+                note: None,
+                votes: SealRow { by_seat: [None; 15] },
+                offered: false,
+            },
+            spoiled: false,
+            blamed: false,
+            blames: SealRow { by_seat: [None; 15] },
+            progress: 0,
+            committed: None,
+            entered: 0,
+            slip: false,
+        }
+    }
+
+    pub fn is_on(&self) -> bool
+        ensures { λ r. ⌜ r ≡ isOn (now (self .entry) .phase) ⌝ }
+    {
+        match self.phase {
+            Phase::On => true,
+            Phase::Leaving { .. } => false,
+        }
+    }
+
+    // A turn begins with no note, no votes, nothing offered.
+    pub fn new_round(&mut self)
+        ensures { λ _. ⌜ now (self .exit) ≡ withRound newRound (now (self .entry)) ⌝ }
+    {
+        self.round = Round {
+            note: None,
+            votes: SealRow { by_seat: [None; 15] },
+            offered: false,
+        };
+    }
+
+    // Leaves a view: whatever belongs to a view is cleared.
+    pub fn leave(&mut self, view: u16)
+        ensures { λ _. ⌜ now (self .exit) ≡ leave view (now (self .entry)) ⌝ }
+    {
+        self.phase = Phase::Leaving { since: self.now };
+        self.view = view;
+        self.new_round();
+        self.spoiled = false;
+        self.blamed = false;
+        self.blames = SealRow { by_seat: [None; 15] };
+    }
 }
