@@ -1,5 +1,6 @@
 pub mod Bodies
 pub mod FirstByte
+pub mod Keeping
 pub mod OneForm
 pub mod Ones
 pub mod Peeling

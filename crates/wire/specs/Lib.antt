@@ -1,4 +1,5 @@
 pub mod Asked
+pub mod Keeping
 pub mod Lawful
 pub mod Layout
 pub mod Masks
