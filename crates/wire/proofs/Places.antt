@@ -7,7 +7,12 @@ use native.Mathlib.Nat.{add-assoc}
 use borrow.Rule.Slice.PartMut.{putMid}
 use lib.ListN.{length, take, drop, length-append, length-drop}
 use lib.Seq.{drop-drop, drop-append-add, length-take-le, take-at, drop-at}
-use Rattle.wire.specs.Writing.{placed, Put}
+use Rattle.std.proofs.shelf.Tests.{cond-true, le-leb}
+use Rattle.std.specs.declared.result.Result.the-variants.{Ok, Err}
+use Rattle.content.specs.Kinds.{Kind}
+use Rattle.wire.specs.Layout.{messageBytes}
+use Rattle.wire.specs.Writing.{placed, Put, messageSize, hasRoom, writeEnd, writeOut}
+use Rattle.wire.specs.declared.message.Parts.{Parts}
 
 -- what a write to a part of a slice leaves
 pub placed-mid : (out ys bytes : List ℕ) (at k : ℕ) → ys ≡ bytes → k ≡ length bytes → putMid at k out ys ≡ placed out at bytes
@@ -55,3 +60,13 @@ put-then {out} {a} {out₁} {b} {out₂} {at} {i} {j} p q =
       behind = rw length-append (omega (arith, q .behind, p .behind));
       fits = omega (arith, q .fits);
     }
+
+-- a message that was put in place was written
+module _ {L : ℕ} {R : Type 0} (k : Kind L R) (out : List ℕ) (at : ℕ) (m : Parts R (List ℕ)) where
+  pub write-end : (end : ℕ) → end ≡ at + messageSize L m → end ≤ length out → Ok end ≡ writeEnd k out at m
+  write-end end e f =
+      ap (λ i. Ok i) e ∙ sym (cond-true (hasRoom k out at m) _ _ (le-leb (at + messageSize L m) (length out) (omega arith)))
+
+  pub write-out : {out₁ : List ℕ} {end : ℕ} → end ≡ at + messageSize L m → Put out at (messageBytes k m) out₁ end → out₁ ≡ writeOut k out at m
+  write-out e p =
+      p .is ∙ sym (cond-true (hasRoom k out at m) _ _ (le-leb (at + messageSize L m) (length out) (omega (arith, p .fits))))
