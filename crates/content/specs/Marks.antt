@@ -67,15 +67,17 @@ mark-back xs m h r =
 abbrev pub marks : Kind 28 ChapterMark
 marks = record { reads = markReads; shown = markShown; low = lit≤ tt; high = lit≤ tt; sized = mark-sized; back = mark-back }
 
--- a mark made from a start and a text of 1 to 24 bytes, all of them text, filled up with zero bytes
-abbrev pub titled : ℕ → List ℕ → ChapterMark
-titled start text = record { start = start; title = text ++ replicate (24 - length text) 0 }
+-- the text of a title: 1 to 24 bytes, all of them text
+abbrev pub isHeading : List ℕ → Bool
+isHeading text = ltb 0 (length text) && (leb (length text) 24 && eqb (textLength text) (length text))
 
-abbrev pub isText24 : List ℕ → Bool
-isText24 text = ltb 0 (length text) && (leb (length text) 24 && eqb (textLength text) (length text))
+-- filled up with zero bytes
+abbrev pub fill : List ℕ → List ℕ
+fill text = text ++ replicate (24 - length text) 0
 
+-- a mark made from a start and a text
 abbrev pub markOf : ℕ → List ℕ → Result ChapterMark Refusal
-markOf start text = okIf (leb start 86400 && isText24 text) (titled start text)
+markOf start text = okIf (leb start 86400 && isHeading text) (record { start = start; title = fill text })
 
 -- the text of a title
 abbrev pub textOf : List ℕ → List ℕ

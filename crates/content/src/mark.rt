@@ -3,7 +3,7 @@ ghost use Prim.Native.Nat.{_≤_};
 ghost use mathlib.Core.Path.{_≡_};
 ghost use lib.ListN.{length};
 ghost use Rattle.content.specs.Kinds.{Lawful};
-ghost use Rattle.content.specs.Marks.{isText, textLength, allZero, isTitle, isMark, marks, markOf, textOf};
+ghost use Rattle.content.specs.Marks.{isText, textLength, allZero, isTitle, isMark, marks, isHeading, fill, markOf, textOf};
 ghost use Rattle.std.specs.Vec.{made};
 use crate::kind::Content;
 use crate::refusal::Refusal;
@@ -64,11 +64,57 @@ fn is_mark(start: u32, title: &[u8]) -> bool
     (start <= LAST_SECOND) & is_title(title)
 }
 
+// Whether bytes are the text of a title: 1 to 24 of them, all text.
+fn is_heading(text: &[u8]) -> bool
+    ensures { λ r. ⌜ r ≡ isHeading (now (text .entry)) ⌝ }
+{
+    let n = text.len();
+    (0 < n) & ((n <= ChapterMark::TITLE) & (text_length(text) == n))
+}
+
+// A text filled up with zero bytes.
+fn filled(text: &[u8]) -> [u8; 24]
+    requires { ⌜ length (now text) ≤ 24 ⌝ }
+    ensures { λ r. ⌜ r ≡ fill (now (text .entry)) ⌝ }
+{
+    let mut title = [0; 24];
+    title[0..text.len()].copy_from_slice(text);
+    title
+}
+
 impl ChapterMark {
     // how many bytes a chapter mark has
     pub const LEN: usize = 28;
     // how many bytes of text a title has at most
     pub const TITLE: usize = 24;
+
+    // A mark from its start and the text of its title.
+    pub fn new(start: u32, text: &[u8]) -> Result<ChapterMark, Refusal>
+        ensures answer { λ r. ⌜ r ≡ markOf start (now (text .entry)) ⌝ }
+        ensures lawful { λ r. ⌜ made r (λ m. Lawful marks m) ⌝ }
+        ensures back { λ r. ⌜ made r (λ m. textOf (m .title) ≡ now (text .entry)) ⌝ }
+    {
+        let lawful = (start <= LAST_SECOND) & is_heading(text);
+        if !lawful {
+            return Err(Refusal::NoContent { at: 0 });
+        }
+        Ok(ChapterMark { start, title: filled(text) })
+    }
+
+    // The second at which the chapter begins.
+    pub fn start(&self) -> u32
+        ensures { λ r. ⌜ r ≡ now (self .entry) .start ⌝ }
+    {
+        self.start
+    }
+
+    // The text of the title.
+    pub fn title(&self) -> &[u8]
+        ensures { λ r. ⌜ now r ≡ textOf (now (self .entry) .title) ⌝ }
+    {
+        let n = text_length(&self.title);
+        &self.title[0..n]
+    }
 }
 
 pub impl Content<{ ChapterMark::LEN }> for ChapterMark as MarkContent {
