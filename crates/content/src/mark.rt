@@ -3,8 +3,9 @@ ghost use Prim.Native.Nat.{_≤_};
 ghost use mathlib.Core.Path.{_≡_};
 ghost use lib.ListN.{length};
 ghost use Rattle.content.specs.Kinds.{Lawful};
-ghost use Rattle.content.specs.Marks.{isText, textLength, allZero, isTitle, isMark, marks, isHeading, fill, markOf, textOf};
+ghost use Rattle.content.specs.Marks.{isText, textLength, allZero, isTitle, isMark, markShown, marks, isHeading, fill, markOf, textOf};
 ghost use Rattle.std.specs.Vec.{made};
+ghost use Rattle.std.specs.shelf.Text.{sameBytes};
 use crate::kind::Content;
 use crate::refusal::Refusal;
 use crate::word::word32;
@@ -13,7 +14,7 @@ use crate::word::word32;
 const LAST_SECOND: u32 = 86_400;
 
 // A chapter mark as it is kept: its start, and its title filled up with zero bytes.
-#[derive(Clone, Copy, PartialEq, Eq, Debug)]
+#[derive(Clone, Copy, Debug)]
 pub struct ChapterMark {
     start: u32,
     title: [u8; 24],
@@ -147,3 +148,14 @@ pub impl Content<{ ChapterMark::LEN }> for ChapterMark as MarkContent {
         is_mark(rec.start, &rec.title)
     }
 }
+
+// Two marks are equal if their bytes are.
+pub impl PartialEq<ChapterMark> for ChapterMark as ChapterMarkPartialEq {
+    ghost equals = { λ a b r. r ≡ sameBytes (markShown a) (markShown b) };
+
+    fn eq(&self, other: &ChapterMark) -> bool {
+        MarkContent::same(self, other)
+    }
+}
+
+pub impl Eq for ChapterMark as ChapterMarkEq {}
