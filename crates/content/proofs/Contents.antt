@@ -35,11 +35,11 @@ unread a b x e = rw e
 pub read-is : {L : ℕ} {R : Type 0} (k : Kind L R) (xs : List ℕ) (r : R) → readContent k xs ≡ Ok r → k .reads xs ≡ Some r
 read-is {L} {R} k xs r h = passed (ltb (length xs) L) (ltb L (length xs)) (k .reads xs) h
   where
-  passed : (a b : Bool) (o : Option R) → cond a (Err (Short 0)) (cond b (Err (Trailing L)) (okOr o (NoContent 0))) ≡ Ok r → o ≡ Some r
-  passed true b o h = absurd (let z : _≡_ {A = ℕ} 0 1 = cc in omega arith)
-  passed false true o h = absurd (let z : _≡_ {A = ℕ} 0 1 = cc in omega arith)
-  passed false false None h = absurd (let z : _≡_ {A = ℕ} 0 1 = cc in omega arith)
-  passed false false (Some y) h = cc
+    passed : (a b : Bool) (o : Option R) → cond a (Err (Short 0)) (cond b (Err (Trailing L)) (okOr o (NoContent 0))) ≡ Ok r → o ≡ Some r
+    passed true b o h = absurd (let z : _≡_ {A = ℕ} 0 1 = cc in omega arith)
+    passed false true o h = absurd (let z : _≡_ {A = ℕ} 0 1 = cc in omega arith)
+    passed false false None h = absurd (let z : _≡_ {A = ℕ} 0 1 = cc in omega arith)
+    passed false false (Some y) h = cc
 
 -- and its bytes are those of the slice
 pub read-back : {L : ℕ} {R : Type 0} (k : Kind L R) (xs : List ℕ) (r : R) → Bytes xs → readContent k xs ≡ Ok r → k .shown r ≡ xs

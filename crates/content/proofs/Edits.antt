@@ -76,8 +76,8 @@ kept-named (suc (suc (suc (suc t)))) a b h k w =
     let n = suc (suc (suc (suc t))) in
     absurd (false≢true (simp (above n 0 (omega arith), above n 1 (omega arith), above n 2 (omega arith), above n 3 (omega arith)) at w))
   where
-  above : (n k : ℕ) → k < n → eqb n k ≡ false
-  above n k h = ne-eqb n k (λ e. omega arith)
+    above : (n k : ℕ) → k < n → eqb n k ≡ false
+    above n k h = ne-eqb n k (λ e. omega arith)
 
 pub edit-back : (r : EditRecord) (e : Edit) → r .first < 2 ^ 64 → r .second < 2 ^ 64 → stands r ≡ true → e ≡ called r → recordOf e ≡ Ok r
 edit-back r e h k s c =

@@ -25,8 +25,8 @@ use Rattle.content.proofs.Titles.{fill-title, fill-text, length-fill}
 markAt-shown : (m : ChapterMark) → m .start < 2 ^ 32 → length (m .title) ≡ 24 → markAt (markShown m) ≡ m
 markAt-shown m h l = mark-is _ _ _ _ (number-spell 4 (m .start) h) (take-all 24 (m .title) (omega arith))
   where
-  mark-is : (a n : ℕ) (xs ys : List ℕ) → a ≡ n → xs ≡ ys → _≡_ {A = ChapterMark} (record { start = a; title = xs }) (record { start = n; title = ys })
-  mark-is a n xs ys p q = rw (p, q)
+    mark-is : (a n : ℕ) (xs ys : List ℕ) → a ≡ n → xs ≡ ys → _≡_ {A = ChapterMark} (record { start = a; title = xs }) (record { start = n; title = ys })
+    mark-is a n xs ys p q = rw (p, q)
 
 pub holds-lawful : (m : ChapterMark) → m .start < 2 ^ 32 → length (m .title) ≡ 24 → Decides (holds m) (Lawful marks m)
 holds-lawful m h l = decides-read holds (eqb (length (markShown m)) 28) _ m (eq-eqb (length (markShown m)) 28 (omega arith)) (markAt-shown m h l)

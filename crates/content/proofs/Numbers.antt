@@ -23,11 +23,12 @@ same-spell (suc k) m n xs ys h l =
     let rest = same-spell k (m / 256) (n / 256) xs ys a b in
     rw rest (regroup (eqb (m % 256) (n % 256)) (eqb (m / 256) (n / 256)) (eqb m n) (sameBytes xs ys) (digits m n))
   where
-  digits : (m n : ℕ) → (eqb (m % 256) (n % 256) && eqb (m / 256) (n / 256)) ≡ eqb m n
-  digits m n = grind (arith, tells)
-  regroup : (a b c d : Bool) → (a && b) ≡ c → (a && (b && d)) ≡ (c && d)
-  regroup true b c d e = ap (λ (x : Bool). x && d) e
-  regroup false b c d e = ap (λ (x : Bool). x && d) e
+    digits : (m n : ℕ) → (eqb (m % 256) (n % 256) && eqb (m / 256) (n / 256)) ≡ eqb m n
+    digits m n = grind (arith, tells)
+
+    regroup : (a b c d : Bool) → (a && b) ≡ c → (a && (b && d)) ≡ (c && d)
+    regroup true b c d e = ap (λ (x : Bool). x && d) e
+    regroup false b c d e = ap (λ (x : Bool). x && d) e
 
 -- what `to_le_bytes` answers is the number's spelling
 pub to-le-16 : (n : ℕ) → _≡_ {A = List ℕ} (n % 256 ∷ n / 256 % 256 ∷ []) (spell 2 n)

@@ -52,13 +52,13 @@ filled-text : (text : List ℕ) (k : ℕ) → textLength text ≡ length text �
 filled-text [] k h = zeros-text k
 filled-text (b ∷ bs) k h = head (isText b) refl (filled-text bs k)
   where
-  head : (t : Bool) → isText b ≡ t → (textLength bs ≡ length bs → textLength (bs ++ replicate k 0) ≡ length bs) → cond (isText b) (suc (textLength (bs ++ replicate k 0))) 0 ≡ suc (length bs)
-  head true e rest =
-      let was : suc (textLength bs) ≡ suc (length bs) = sym (cond-true (isText b) (suc (textLength bs)) 0 e) ∙ h in
-      cond-true (isText b) _ 0 e ∙ ap suc (rest (omega arith))
-  head false e rest =
-      let was : 0 ≡ suc (length bs) = sym (cond-false (isText b) (suc (textLength bs)) 0 e) ∙ h in
-      absurd (omega arith)
+    head : (t : Bool) → isText b ≡ t → (textLength bs ≡ length bs → textLength (bs ++ replicate k 0) ≡ length bs) → cond (isText b) (suc (textLength (bs ++ replicate k 0))) 0 ≡ suc (length bs)
+    head true e rest =
+        let was : suc (textLength bs) ≡ suc (length bs) = sym (cond-true (isText b) (suc (textLength bs)) 0 e) ∙ h in
+        cond-true (isText b) _ 0 e ∙ ap suc (rest (omega arith))
+    head false e rest =
+        let was : 0 ≡ suc (length bs) = sym (cond-false (isText b) (suc (textLength bs)) 0 e) ∙ h in
+        absurd (omega arith)
 
 record Heading (text : List ℕ) : Type 0 where
   some : 0 < length text

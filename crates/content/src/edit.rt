@@ -18,6 +18,7 @@ use std::num::f64_to_bits_with_nan;
 const LAST_SECOND: f64 = 86_400.0;
 // the quietest and the loudest gain, in decibels
 const QUIETEST: f64 = -60.0;
+
 const LOUDEST: f64 = 12.0;
 
 // What an edit asks for: to trim from one second to a later one, to set the gain in decibels from a second on,
@@ -105,7 +106,11 @@ impl EditRecord {
         if !is_edit(self.tag, self.first, self.second) {
             return Err(Refusal::NoContent { at: 0 });
         }
-        Ok(edit_named(self.tag, f64_from_bits_with_nan(self.first), f64_from_bits_with_nan(self.second)))
+        Ok(edit_named(
+            self.tag,
+            f64_from_bits_with_nan(self.first),
+            f64_from_bits_with_nan(self.second),
+        ))
     }
 }
 
@@ -119,10 +124,26 @@ impl Edit {
         ensures back { λ r. ⌜ called r ≡ now (self .entry) ⌝ }
     {
         match self {
-            Edit::Trim(x, y) => EditRecord { tag: 0, first: bits_of(*x), second: bits_of(*y) },
-            Edit::Gain(x, y) => EditRecord { tag: 1, first: bits_of(*x), second: bits_of(*y) },
-            Edit::Undo => EditRecord { tag: 2, first: 0, second: 0 },
-            Edit::Save => EditRecord { tag: 3, first: 0, second: 0 },
+            Edit::Trim(x, y) => EditRecord {
+                tag: 0,
+                first: bits_of(*x),
+                second: bits_of(*y),
+            },
+            Edit::Gain(x, y) => EditRecord {
+                tag: 1,
+                first: bits_of(*x),
+                second: bits_of(*y),
+            },
+            Edit::Undo => EditRecord {
+                tag: 2,
+                first: 0,
+                second: 0,
+            },
+            Edit::Save => EditRecord {
+                tag: 3,
+                first: 0,
+                second: 0,
+            },
         }
     }
 
@@ -133,7 +154,11 @@ impl Edit {
         ensures lawful { λ r. ⌜ made r (λ e. Lawful edits e) ⌝ }
     {
         let rec = self.kept();
-        if is_edit(rec.tag, rec.first, rec.second) { Ok(rec) } else { Err(Refusal::NoContent { at: 0 }) }
+        if is_edit(rec.tag, rec.first, rec.second) {
+            Ok(rec)
+        } else {
+            Err(Refusal::NoContent { at: 0 })
+        }
     }
 
     // The edit of these bytes.
@@ -171,7 +196,11 @@ pub impl Content<{ Edit::LEN }> for Edit as EditContent {
         let tag = src[0];
         let first = word64(&src[1..9]);
         let second = word64(&src[9..17]);
-        if is_edit(tag, first, second) { Some(EditRecord { tag, first, second }) } else { None }
+        if is_edit(tag, first, second) {
+            Some(EditRecord { tag, first, second })
+        } else {
+            None
+        }
     }
 
     fn bytes(rec: &EditRecord) -> [u8; 17] {

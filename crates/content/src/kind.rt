@@ -48,7 +48,10 @@ pub fn read_content<const L: usize, C: Content<L>>(src: &[u8]) -> Result<C::Reco
 }
 
 // Writes the bytes of a record to the front of `out`, and says how many.
-pub fn write_content<const L: usize, C: Content<L>>(rec: &C::Record, out: &mut [u8]) -> Result<usize, Refusal>
+pub fn write_content<const L: usize, C: Content<L>>(
+    rec: &C::Record,
+    out: &mut [u8],
+) -> Result<usize, Refusal>
     ensures answer { λ r. ⌜ r ≡ writeAnswer L (Ok (C·Content .kind .shown (now (rec .entry)))) (now (out .entry)) ⌝ }
     ensures memory { λ _. ⌜ now (out .exit) ≡ writeMemory L (Ok (C·Content .kind .shown (now (rec .entry)))) (now (out .entry)) ⌝ }
 {
@@ -60,7 +63,10 @@ pub fn write_content<const L: usize, C: Content<L>>(rec: &C::Record, out: &mut [
 }
 
 // Reads content and writes it to the front of `out`: the very bytes that were read.
-pub fn copy_content<const L: usize, C: Content<L>>(src: &[u8], out: &mut [u8]) -> Result<usize, Refusal>
+pub fn copy_content<const L: usize, C: Content<L>>(
+    src: &[u8],
+    out: &mut [u8],
+) -> Result<usize, Refusal>
     ensures answer { λ r. ⌜ r ≡ writeAnswer L (next (readContent (C·Content .kind) (now (src .entry))) (λ _. Ok (now (src .entry)))) (now (out .entry)) ⌝ }
     ensures memory { λ _. ⌜ now (out .exit) ≡ writeMemory L (next (readContent (C·Content .kind) (now (src .entry))) (λ _. Ok (now (src .entry)))) (now (out .entry)) ⌝ }
 {

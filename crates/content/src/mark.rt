@@ -99,7 +99,10 @@ impl ChapterMark {
         if !lawful {
             return Err(Refusal::NoContent { at: 0 });
         }
-        Ok(ChapterMark { start, title: filled(text) })
+        Ok(ChapterMark {
+            start,
+            title: filled(text),
+        })
     }
 
     // The second at which the chapter begins.
@@ -130,7 +133,11 @@ pub impl Content<{ ChapterMark::LEN }> for ChapterMark as MarkContent {
         let start = word32(&src[0..4]);
         let mut title = [0; 24];
         title.copy_from_slice(&src[4..28]);
-        if is_mark(start, &title) { Some(ChapterMark { start, title }) } else { None }
+        if is_mark(start, &title) {
+            Some(ChapterMark { start, title })
+        } else {
+            None
+        }
     }
 
     fn bytes(rec: &ChapterMark) -> [u8; 28] {

@@ -8,7 +8,7 @@ pub returns-then-not-is-text : need.returns-then-not-is-text
 returns-then-not-is-text c =
     record {
       answer = text-ends (c .args .bytes .now) (c .loop-i .i) (c .loop-i-test .taken) (c .loop-i .inv) (sym (c .if-not-is-text .ensures tt));
-      within = omega arith
+      within = omega arith;
     }
 
 pub loop-i-again : need.loop-i-again

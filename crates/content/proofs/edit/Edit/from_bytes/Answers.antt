@@ -8,5 +8,5 @@ pub returns : need.returns
 returns c =
     record {
       answer = search needs;
-      back = bytes-back (c .args .src .now) (c .in-Continue-rec .rec) (c .edit .result) (λ i. omega (arith, c .typed .src i)) (sym (c .in-Continue-rec .ensures tt)) (c .edit .ensures .back)
+      back = bytes-back (c .args .src .now) (c .in-Continue-rec .rec) (c .edit .result) (λ i. omega (arith, c .typed .src i)) (sym (c .in-Continue-rec .ensures tt)) (c .edit .ensures .back);
     }

@@ -15,5 +15,5 @@ returns-then-is-edit c =
     record {
       answer = search needs;
       back = record-back (c .args .self .now) (c .kept-rec .result) s (c .kept-rec .ensures .back);
-      lawful = stands-lawful (c .kept-rec .result) h k .0 s
+      lawful = stands-lawful (c .kept-rec .result) h k .0 s;
     }

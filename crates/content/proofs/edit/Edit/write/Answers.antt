@@ -11,5 +11,5 @@ returns c =
     record {
       answer = wrote .answer ∙ ap (λ ys. writeAnswer 17 ys (c .args .out .now)) bytes;
       memory = wrote .memory ∙ ap (λ ys. writeMemory 17 ys (c .args .out .now)) bytes;
-      back = written-back (c .in-Continue-rec .rec) (c .args .self .now) (c .args .out .now) (c .write-content .last .out) (c .write-content .result) (kept .lawful) (kept .back) (c .if-out-lt-LEN .left) (wrote .answer) (wrote .memory)
+      back = written-back (c .in-Continue-rec .rec) (c .args .self .now) (c .args .out .now) (c .write-content .last .out) (c .write-content .result) (kept .lawful) (kept .back) (c .if-out-lt-LEN .left) (wrote .answer) (wrote .memory);
     }

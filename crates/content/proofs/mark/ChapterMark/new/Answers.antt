@@ -17,5 +17,5 @@ returns c =
     record {
       answer = made-answer start text title h t (c .filled .ensures);
       lawful = made-lawful start text title h t (c .filled .ensures);
-      back = made-back start text title h t (c .filled .ensures)
+      back = made-back start text title h t (c .filled .ensures);
     }
