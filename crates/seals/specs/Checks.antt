@@ -3,7 +3,7 @@ use Prim.Native.Nat.{ℕ, _≤_}
 use mathlib.Core.Path.{_≡_}
 use mathlib.Core.List.{List}
 use mathlib.Core.Bool.{Bool}
-use lib.Dec.{T}
+use lib.Dec.{T, lit≤}
 use lib.ListN.{length}
 
 -- a seal is 1 to 64 bytes
@@ -14,3 +14,7 @@ pub record SealLength (S : ℕ) : Type 0 where
 -- only seals of S bytes are accepted
 abbrev pub Sized : {C : Type 0} → ℕ → (C → ℕ → List ℕ → List ℕ → Bool) → Type 0
 Sized {C} S accepts = (c : C) (seat : ℕ) (statement seal : List ℕ) → T (accepts c seat statement seal) → length seal ≡ S
+
+abbrev pub eight : SealLength 8
+eight = record { low = lit≤ tt; high = lit≤ tt }
+
