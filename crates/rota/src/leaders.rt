@@ -22,6 +22,7 @@ pub trait Rota {
 
 // The least and the most seats of a log; their number is odd.
 pub const FEWEST_SEATS: u8 = 3;
+
 pub const MOST_SEATS: u8 = 15;
 
 // Whether a log may have this many seats.

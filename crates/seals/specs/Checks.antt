@@ -17,4 +17,3 @@ Sized {C} S accepts = (c : C) (seat : ℕ) (statement seal : List ℕ) → T (ac
 
 abbrev pub eight : SealLength 8
 eight = record { low = lit≤ tt; high = lit≤ tt }
-

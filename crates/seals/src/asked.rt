@@ -22,7 +22,11 @@ pub fn ask<const S: usize, K: SealCheck<S>>(check: &mut K, q: Question) -> bool
 }
 
 // Asks two questions, and then both again the other way round: the answers are the same.
-pub fn same_in_any_order<const S: usize, K: SealCheck<S>>(check: &mut K, a: Question, b: Question) -> bool
+pub fn same_in_any_order<const S: usize, K: SealCheck<S>>(
+    check: &mut K,
+    a: Question,
+    b: Question,
+) -> bool
     ensures always { λ r. ⌜ r ≡ true ⌝ }
     ensures kept { λ _. ⌜ accepts (now (check .exit)) ≡ accepts (now (check .entry)) ⌝ }
 {

@@ -10,6 +10,7 @@ pub trait SealCheck<const S: usize> {
     ghost lengths: { SealLength S };
     // for a seat, a statement and a seal: whether the seal is good
     ghost accepts: { Self → ℕ → List ℕ → List ℕ → Bool };
+
     ghost sized: { Sized S accepts };
 
     // Whether this seal is the seat's on the statement that is the tag byte and then the body. Asking

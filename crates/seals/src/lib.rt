@@ -1,3 +1,3 @@
 // Seal checks: which seals stand under which statements of which seats.
-pub mod check;
 pub mod asked;
+pub mod check;
