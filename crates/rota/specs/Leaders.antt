@@ -7,6 +7,10 @@ use lib.ListN.{length, getD}
 abbrev pub robin : ℕ → ℕ → ℕ
 robin n view = view % n
 
--- a posted rota: the views go round its entries
+-- the entry that a view comes to: the views go round the entries
+abbrev pub entryOf : List ℕ → ℕ → ℕ
+entryOf entries view = getD entries (view % length entries) 0
+
+-- a posted rota: the view's entry, taken round the seats
 abbrev pub posted : List ℕ → ℕ → ℕ → ℕ
-posted entries n view = getD entries (view % length entries) 0 % n
+posted entries n view = entryOf entries view % n

@@ -3,7 +3,7 @@ ghost use Prim.Native.Nat.{_≤_};
 ghost use lib.ListN.{length, take};
 ghost use mathlib.Core.Path.{_≡_};
 ghost use mathlib.Core.Bool.{true};
-ghost use Rattle.rota.specs.Leaders.{posted};
+ghost use Rattle.rota.specs.Leaders.{entryOf, posted};
 ghost use Rattle.rota.specs.Limits.{postedLawful, MadeWithin};
 use crate::leaders::Rota;
 use crate::leaders::seats_in_limits;
@@ -37,6 +37,13 @@ impl PostedRota {
             n,
         })
     }
+
+    // The entry that a view comes to.
+    fn entry_of(&self, view: u16) -> u8
+        ensures { λ r. ⌜ r ≡ entryOf (take (now (self .entry) .count) (now (self .entry) .room)) view ⌝ }
+    {
+        self.room[view as usize % self.count]
+    }
 }
 
 // The entries, and zeros after them.
@@ -60,6 +67,6 @@ pub impl Rota for PostedRota as PostedRotaRota {
     }
 
     fn leader(&self, view: u16) -> u8 {
-        self.room[view as usize % self.count] % self.n
+        self.entry_of(view) % self.n
     }
 }
