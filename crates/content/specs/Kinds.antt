@@ -1,8 +1,9 @@
 -- What a kind of content means.
 use Prim.Native.Nat.{ℕ, _<_, _≤_}
-use mathlib.Core.Path.{_≡_}
+use mathlib.Core.Path.{_≡_, refl}
 use mathlib.Core.List.{List}
-use mathlib.Core.Bool.{cond}
+use mathlib.Core.Bool.{Bool, true, false, cond}
+use native.Mathlib.Omega.{arith}
 use lib.Dec.{ltb}
 use lib.ListN.{length, getD}
 use Rattle.std.specs.Options.{okOr}
@@ -16,6 +17,14 @@ use Rattle.content.specs.declared.refusal.Refusal.the-variants.{Short, Trailin
 -- every number of the list is a byte
 abbrev pub Bytes : List ℕ → Type 0
 Bytes xs = (i : ℕ) → getD xs i 0 < 256
+
+-- a value, if a test says yes
+abbrev pub someIf : {X : Type 0} → Bool → X → Option X
+someIf b x = cond b (Some x) None
+
+pub someIf-is : {X : Type 0} (b : Bool) (x y : X) → someIf b x ≡ Some y → (b ≡ true) × (x ≡ y)
+someIf-is true x y e = (refl, cc)
+someIf-is false x y e = absurd (let z : _≡_ {A = ℕ} 0 1 = cc in omega arith)
 
 -- A kind of content with length L and records R: which lists of bytes are content, and as which record
 -- they are kept (`reads`), the bytes of a record (`shown`), and the laws that every kind owes.

@@ -1,2 +1,4 @@
+pub mod Edits
 pub mod Kinds
+pub mod Numbers
 pub mod Refusals

@@ -1,0 +1,3 @@
+mod Edits
+mod Contents
+pub mod Numbers
