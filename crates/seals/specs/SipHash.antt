@@ -57,5 +57,9 @@ abbrev pub wordsOf : ℕ → ℕ → List ℕ → List ℕ
 wordsOf zero len rest = (number rest + len % 256 * 2 ^ 56) ∷ []
 wordsOf (suc k) len rest = number (take 8 rest) ∷ wordsOf k len (drop 8 rest)
 
+-- the state once the rest of a message of `len` bytes has gone in
+abbrev pub absorbRest : State → ℕ → List ℕ → State
+absorbRest s len rest = absorb s (wordsOf (length rest / 8) len rest)
+
 unfoldable pub sipHash : List ℕ → List ℕ → ℕ
-sipHash key message = finish (absorb (start key) (wordsOf (length message / 8) (length message) message))
+sipHash key message = finish (absorbRest (start key) (length message) message)

@@ -1,10 +1,10 @@
 // SipHash-2-4, a keyed hash of 64 bits, over a tag byte and a body that lie apart.
 ghost use mathlib.Core.Path.{_≡_};
-ghost use Prim.Native.Nat.{_+_, _*_, _/_, _%_, _^_, _<_};
+ghost use Prim.Native.Nat.{_+_, _*_, _%_, _^_, _<_};
 ghost use mathlib.Core.List.{_∷_};
 ghost use lib.ListN.{length};
 ghost use Rattle.content.specs.Numbers.{number};
-ghost use Rattle.seals.specs.SipHash.{sipRound, start, compress, absorb, finish, wordsOf, sipHash};
+ghost use Rattle.seals.specs.SipHash.{sipRound, start, compress, absorbRest, finish, sipHash};
 
 // The four words that a message goes into.
 #[derive(Clone, Copy)]
@@ -72,7 +72,7 @@ impl State {
 
     // Takes in these last bytes of a message of this size, and answers.
     fn absorb(self, bytes: &[u8], size: usize) -> u64
-        ensures { λ r. ⌜ r ≡ finish (absorb self (wordsOf (length (now (bytes .entry)) / 8) size (now (bytes .entry)))) ⌝ }
+        ensures { λ r. ⌜ r ≡ finish (absorbRest self size (now (bytes .entry))) ⌝ }
     {
         let mut state = self;
         let mut rest = bytes;
@@ -100,7 +100,7 @@ fn hash_under(key: &[u8], tag: u8, body: &[u8]) -> u64
     let state = State::new(key);
     let size = body.len() + 1;
     if body.len() < 7 {
-        return state.close(tag as u64 + 256 * part_word(body), size);
+        return state.close(short_word(tag, body), size);
     }
     let (first, rest) = body.split_at(7);
     state.compress(first_word(tag, first)).absorb(rest, size)
@@ -133,4 +133,13 @@ fn part_word(bytes: &[u8]) -> u64
         word = word * 256 + bytes[i] as u64;
     }
     word
+}
+
+// The number of a tag byte and fewer than seven bytes after it.
+fn short_word(tag: u8, bytes: &[u8]) -> u64
+    requires { ⌜ length (now bytes) < 7 ⌝ }
+    ensures value { λ r. ⌜ r ≡ number (tag ∷ now (bytes .entry)) ⌝ }
+    ensures room { λ r. ⌜ r < 2 ^ 56 ⌝ }
+{
+    tag as u64 + 256 * part_word(bytes)
 }

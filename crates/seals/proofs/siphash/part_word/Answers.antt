@@ -1,19 +1,13 @@
 use Prim.Native.Nat.{ℕ, suc, _+_, _-_, _*_, _^_, _<_, _≤_}
-use native.Mathlib.Nat.{pow-suc, pow-le-pow-right}
+use native.Mathlib.Nat.{pow-suc}
 use native.Mathlib.Omega.{arith}
 use mathlib.Core.Path.{_≡_, ap}
 use mathlib.Core.List.{List}
-use lib.Dec.{lit<}
 use lib.ListN.{length, drop, getD}
 use Rattle.std.proofs.shelf.Lists.{at-drop-more, at-drop-all}
 use Rattle.content.specs.Numbers.{number}
+use Rattle.seals.proofs.Words.{fits-in}
 use Rattle.seals.proofs.siphash.part_word.Needs as need
-
--- six bytes leave room for one more
-six : (k w : ℕ) → k ≤ 6 → w < 256 ^ k → w < 2 ^ 48
-six k w h l =
-    let m : 256 ^ k ≤ 256 ^ 6 = pow-le-pow-right (lit< tt) h in
-    omega arith
 
 none : (xs : List ℕ) → (0 ≡ number (drop (length xs) xs)) × (0 < 256 ^ (length xs - length xs))
 none xs =
@@ -37,12 +31,12 @@ loop-i-holds c = none (c .args .bytes .now)
 
 pub mul-word : need.mul-word
 mul-word c =
-    let s : c .loop-i .word < 2 ^ 48 = six (length (c .args .bytes .now) - c .loop-i .i) (c .loop-i .word) (omega arith) (c .loop-i .inv .1) in
+    let s : c .loop-i .word < 256 ^ 6 = fits-in 6 (omega arith) (c .loop-i .inv .1) in
     omega arith
 
 pub add-word : need.add-word
 add-word c =
-    let s : c .loop-i .word < 2 ^ 48 = six (length (c .args .bytes .now) - c .loop-i .i) (c .loop-i .word) (omega arith) (c .loop-i .inv .1) in
+    let s : c .loop-i .word < 256 ^ 6 = fits-in 6 (omega arith) (c .loop-i .inv .1) in
     omega (arith, c .typed .bytes (c .loop-i .i - 1))
 
 pub loop-i-again : need.loop-i-again
