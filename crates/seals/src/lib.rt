@@ -1,4 +1,6 @@
 // Seal checks: which seals stand under which statements of which seats.
 pub mod asked;
+mod bytes;
 pub mod check;
+pub mod house;
 pub mod siphash;

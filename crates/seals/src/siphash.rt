@@ -93,7 +93,7 @@ pub fn sip_hash(key: &[u8; 16], tag: u8, body: &[u8]) -> u64
 }
 
 // The same for a key that lies among others.
-fn hash_under(key: &[u8], tag: u8, body: &[u8]) -> u64
+pub(crate) fn hash_under(key: &[u8], tag: u8, body: &[u8]) -> u64
     requires { ⌜ length (now key) ≡ 16 ⌝ }
     ensures { λ r. ⌜ r ≡ sipHash (now (key .entry)) (tag ∷ now (body .entry)) ⌝ }
 {
