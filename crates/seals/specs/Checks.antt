@@ -20,11 +20,16 @@ Sized {C} S accepts = (c : C) (seat : ℕ) (statement seal : List ℕ) → T (ac
 abbrev pub eight : SealLength 8
 eight = record { low = lit≤ tt; high = lit≤ tt }
 
--- equal bytes are equally many
-and-right : (a b : Bool) → T (a && b) → T b
+-- a test of two parts is passed if both are
+pub and-left : (a b : Bool) → T (a && b) → T a
+and-left true b h = tt
+and-left false b h = elim h [ ]
+
+pub and-right : (a b : Bool) → T (a && b) → T b
 and-right true b h = h
 and-right false b h = elim h [ ]
 
+-- equal bytes are equally many
 pub same-length : (xs ys : List ℕ) → T (sameBytes xs ys) → length ys ≡ length xs
 same-length [] [] h = refl
 same-length [] (y ∷ ys) h = elim h [ ]

@@ -3,4 +3,5 @@ pub mod asked;
 mod bytes;
 pub mod check;
 pub mod house;
+pub mod roll;
 pub mod siphash;
