@@ -31,8 +31,10 @@ start key =
     let k0 = number (take 8 key) in
     let k1 = number (drop 8 key) in
     record {
-        v0 = bitXor k0 0x736f6d6570736575; v1 = bitXor k1 0x646f72616e646f6d;
-        v2 = bitXor k0 0x6c7967656e657261; v3 = bitXor k1 0x7465646279746573
+      v0 = bitXor k0 0x736f6d6570736575;
+      v1 = bitXor k1 0x646f72616e646f6d;
+      v2 = bitXor k0 0x6c7967656e657261;
+      v3 = bitXor k1 0x7465646279746573;
     }
 
 -- a word goes in between two changes of the state, by two rounds
@@ -63,3 +65,8 @@ absorbRest s len rest = absorb s (wordsOf (length rest / 8) len rest)
 
 unfoldable pub sipHash : List ℕ → List ℕ → ℕ
 sipHash key message = finish (absorbRest (start key) (length message) message)
+
+-- so many bytes in rising order, from a first one on
+abbrev pub rising : ℕ → ℕ → List ℕ
+rising zero first = []
+rising (suc n) first = first ∷ rising n (first + 1)

@@ -2,8 +2,6 @@
 ghost use mathlib.Core.Path.{_≡_};
 ghost use mathlib.Core.Bool.{true};
 ghost use mathlib.Core.List.{_∷_};
-ghost use Rattle.seals.specs.SipHash.{sipHash};
-ghost use Rattle.content.specs.Numbers.{spell};
 use crate::check::SealCheck;
 
 // A question to a check.
@@ -35,10 +33,4 @@ pub fn same_in_any_order<const S: usize, K: SealCheck<S>>(
     let (a_first, b_first) = (ask(check, a), ask(check, b));
     let (b_again, a_again) = (ask(check, b), ask(check, a));
     (a_first == a_again) & (b_first == b_again)
-}
-
-pub fn vector() -> u8
-    ensures { λ _. ⌜ sipHash (spell 16 0x0f0e0d0c0b0a09080706050403020100) (spell 15 0x0e0d0c0b0a09080706050403020100) ≡ 0xa129ca6149be45e5 ⌝ }
-{
-    0
 }

@@ -10,12 +10,10 @@ ghost use Rattle.seals.specs.Checks.{eight};
 ghost use Rattle.seals.specs.House.{keysLawful, houseSeal, houseAccepts, house-sized};
 use crate::bytes::same_bytes;
 use crate::check::SealCheck;
+use crate::siphash::KEY_LENGTH;
 use crate::siphash::hash_under;
 use content::refusal::Refusal;
 use rota::leaders::seats_in_limits;
-
-// The length of a key, in bytes.
-pub const KEY_LENGTH: usize = 16;
 
 // One key for each seat, in a row.
 #[derive(Clone, Copy)]
@@ -24,6 +22,9 @@ pub struct HouseSeals<'a> {
 }
 
 impl<'a> HouseSeals<'a> {
+    // The length of a seal, in bytes.
+    pub const SEAL_LENGTH: usize = 8;
+
     // The keys of a log of n seats.
     pub fn new(keys: &'a [u8], n: u8) -> Result<HouseSeals<'a>, Refusal>
         ensures { λ r. ⌜ MadeWithin (keysLawful n (now (keys .entry))) (λ v. now (v .keys) ≡ now (keys .entry)) r ⌝ }
@@ -36,7 +37,7 @@ impl<'a> HouseSeals<'a> {
 
     // The signing box: the seat's seal on the statement that is the tag byte and then the body, or nothing if
     // the seat has no key.
-    pub fn sign(&self, seat: u8, tag: u8, body: &[u8]) -> Option<[u8; 8]>
+    pub fn sign(&self, seat: u8, tag: u8, body: &[u8]) -> Option<[u8; HouseSeals::SEAL_LENGTH]>
         ensures seal { λ r. ⌜ r ≡ houseSeal (now (now (self .entry) .keys)) seat (tag ∷ now (body .entry)) ⌝ }
         ensures alone { λ r. ⌜ ((x : List ℕ) → Decides (houseAccepts (now (now (self .entry) .keys)) seat (tag ∷ now (body .entry)) x) (r ≡ Some x)) ⌝ }
     {
@@ -44,7 +45,7 @@ impl<'a> HouseSeals<'a> {
     }
 }
 
-fn seal_of(keys: &[u8], seat: u8, tag: u8, body: &[u8]) -> Option<[u8; 8]>
+fn seal_of(keys: &[u8], seat: u8, tag: u8, body: &[u8]) -> Option<[u8; HouseSeals::SEAL_LENGTH]>
     ensures { λ r. ⌜ r ≡ houseSeal (now (keys .entry)) seat (tag ∷ now (body .entry)) ⌝ }
 {
     let at = KEY_LENGTH * seat as usize;
@@ -55,7 +56,7 @@ fn seal_of(keys: &[u8], seat: u8, tag: u8, body: &[u8]) -> Option<[u8; 8]>
     Some(hash_under(&keys[at..end], tag, body).to_le_bytes())
 }
 
-pub impl<'a> SealCheck<8> for HouseSeals<'a> as HouseSealsCheck {
+pub impl<'a> SealCheck<{ HouseSeals::SEAL_LENGTH }> for HouseSeals<'a> as HouseSealsCheck {
     ghost lengths = { eight };
 
     ghost accepts = { λ c. houseAccepts (now (c .keys)) };

@@ -10,31 +10,47 @@ use crate::check::SealCheck;
 
 // A good seal of a seat on a statement, which is a tag byte and then a body.
 #[derive(Clone, Copy)]
-pub struct RollLine<'a> {
-    pub seat: u8,
-    pub statement: &'a [u8],
-    pub seal: [u8; 8],
+pub struct RollLine<'s> {
+    seat: u8,
+    statement: &'s [u8],
+    seal: [u8; Roll::SEAL_LENGTH],
 }
 
 #[derive(Clone, Copy)]
-pub struct Roll<'a> {
-    lines: &'a [RollLine<'a>],
+pub struct Roll<'a, 's> {
+    lines: &'a [RollLine<'s>],
 }
 
-impl<'a> Roll<'a> {
+impl<'a, 's> Roll<'a, 's> {
+    // The length of a seal, in bytes.
+    pub const SEAL_LENGTH: usize = 8;
+
     // The roll of these lines.
-    pub fn new(lines: &'a [RollLine<'a>]) -> Roll<'a>
+    pub fn new(lines: &'a [RollLine<'s>]) -> Roll<'a, 's>
         ensures { λ r. ⌜ now (r .lines) ≡ now (lines .entry) ⌝ }
     {
         Roll { lines }
     }
 }
 
-impl<'a> RollLine<'a> {
+impl<'s> RollLine<'s> {
+    pub fn new(seat: u8, statement: &'s [u8], seal: [u8; Roll::SEAL_LENGTH]) -> RollLine<'s>
+        ensures whose { λ r. ⌜ r .seat ≡ seat ⌝ }
+        ensures what { λ r. ⌜ now (r .statement) ≡ now (statement .entry) ⌝ }
+        ensures how { λ r. ⌜ r .seal ≡ seal ⌝ }
+    {
+        RollLine {
+            seat,
+            statement,
+            seal,
+        }
+    }
+
     fn is(&self, seat: u8, tag: u8, body: &[u8], seal: &[u8]) -> bool
         ensures { λ r. ⌜ r ≡ isLine (now (self .entry)) seat (tag ∷ now (body .entry)) (now (seal .entry)) ⌝ }
     {
-        (self.seat == seat) & (is_statement(self.statement, tag, body) & same_bytes(&self.seal, seal))
+        (self.seat == seat)
+            & (is_statement(self.statement, tag, body) & same_bytes(&self.seal, seal))
     }
 }
 
@@ -49,14 +65,14 @@ fn any_is(lines: &[RollLine], seat: u8, tag: u8, body: &[u8], seal: &[u8]) -> bo
     false
 }
 
-pub impl<'a> SealCheck<8> for Roll<'a> as RollCheck {
+pub impl<'a, 's> SealCheck<{ Roll::SEAL_LENGTH }> for Roll<'a, 's> as RollCheck {
     ghost lengths = { eight };
 
     ghost accepts = { λ c. rollAccepts (now (c .lines)) };
 
-    ghost sized = { λ c seat statement seal h. roll-sized (now (c .lines)) seat statement seal h };
+    ghost sized = { λ c. roll-sized (now (c .lines)) };
 
     fn check(&mut self, seat: u8, tag: u8, body: &[u8], seal: &[u8]) -> bool {
-        (seal.len() == 8) & any_is(self.lines, seat, tag, body, seal)
+        (seal.len() == Roll::SEAL_LENGTH) & any_is(self.lines, seat, tag, body, seal)
     }
 }

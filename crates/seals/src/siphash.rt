@@ -1,10 +1,13 @@
-// SipHash-2-4, a keyed hash of 64 bits, over a tag byte and a body that lie apart.
+// SipHash-2-4, a keyed hash of 64 bits: eight bytes at a time, and what is left over with the length.
 ghost use mathlib.Core.Path.{_≡_};
 ghost use Prim.Native.Nat.{_+_, _*_, _%_, _^_, _<_};
 ghost use mathlib.Core.List.{_∷_};
 ghost use lib.ListN.{length};
 ghost use Rattle.content.specs.Numbers.{number};
-ghost use Rattle.seals.specs.SipHash.{sipRound, start, compress, absorbRest, finish, sipHash};
+ghost use Rattle.seals.specs.SipHash.{sipRound, start, compress, absorbRest, finish, sipHash, rising};
+
+// The length of a key, in bytes.
+pub const KEY_LENGTH: usize = 16;
 
 // The four words that a message goes into.
 #[derive(Clone, Copy)]
@@ -50,7 +53,11 @@ impl State {
     fn compress(self, word: u64) -> State
         ensures { λ r. ⌜ r ≡ compress self word ⌝ }
     {
-        let mut state = State { v3: self.v3 ^ word, ..self }.round().round();
+        let met = State {
+            v3: self.v3 ^ word,
+            ..self
+        };
+        let mut state = met.round().round();
         state.v0 ^= word;
         state
     }
@@ -58,8 +65,12 @@ impl State {
     fn finish(self) -> u64
         ensures { λ r. ⌜ r ≡ finish self ⌝ }
     {
-        let State { v0, v1, v2, v3 } = State { v2: self.v2 ^ 0xff, ..self }.round().round().round().round();
-        (v0 ^ v1) ^ (v2 ^ v3)
+        let met = State {
+            v2: self.v2 ^ 0xff,
+            ..self
+        };
+        let end = met.round().round().round().round();
+        (end.v0 ^ end.v1) ^ (end.v2 ^ end.v3)
     }
 
     // Takes in the last word of a message of this size, whose leftover bytes have this number, and answers.
@@ -85,14 +96,21 @@ impl State {
     }
 }
 
-// The hash of the tag byte and then the body.
-pub fn sip_hash(key: &[u8; 16], tag: u8, body: &[u8]) -> u64
-    ensures { λ r. ⌜ r ≡ sipHash (now (key .entry)) (tag ∷ now (body .entry)) ⌝ }
+// The hash of a message.
+pub fn sip_hash(key: &[u8; KEY_LENGTH], message: &[u8]) -> u64
+    ensures { λ r. ⌜ r ≡ sipHash (now (key .entry)) (now (message .entry)) ⌝ }
 {
-    hash_under(key, tag, body)
+    State::new(key).absorb(message, message.len())
 }
 
-// The same for a key that lies among others.
+// A published example: the key is the bytes 0 to 15, and the message the bytes 0 to 14.
+pub fn published_example() -> u64
+    ensures { λ r. ⌜ r ≡ sipHash (rising 16 0) (rising 15 0) ⌝ }
+{
+    0xa129ca6149be45e5
+}
+
+// The hash of the message that is a tag byte and then a body, which need not lie side by side.
 pub(crate) fn hash_under(key: &[u8], tag: u8, body: &[u8]) -> u64
     requires { ⌜ length (now key) ≡ 16 ⌝ }
     ensures { λ r. ⌜ r ≡ sipHash (now (key .entry)) (tag ∷ now (body .entry)) ⌝ }
@@ -111,7 +129,16 @@ fn whole_word(bytes: &[u8]) -> u64
     requires { ⌜ length (now bytes) ≡ 8 ⌝ }
     ensures { λ r. ⌜ r ≡ number (now (bytes .entry)) ⌝ }
 {
-    u64::from_le_bytes([bytes[0], bytes[1], bytes[2], bytes[3], bytes[4], bytes[5], bytes[6], bytes[7]])
+    u64::from_le_bytes([
+        bytes[0],
+        bytes[1],
+        bytes[2],
+        bytes[3],
+        bytes[4],
+        bytes[5],
+        bytes[6],
+        bytes[7],
+    ])
 }
 
 // The number of a tag byte and seven bytes after it.
@@ -119,7 +146,16 @@ fn first_word(tag: u8, bytes: &[u8]) -> u64
     requires { ⌜ length (now bytes) ≡ 7 ⌝ }
     ensures { λ r. ⌜ r ≡ number (tag ∷ now (bytes .entry)) ⌝ }
 {
-    u64::from_le_bytes([tag, bytes[0], bytes[1], bytes[2], bytes[3], bytes[4], bytes[5], bytes[6]])
+    u64::from_le_bytes([
+        tag,
+        bytes[0],
+        bytes[1],
+        bytes[2],
+        bytes[3],
+        bytes[4],
+        bytes[5],
+        bytes[6],
+    ])
 }
 
 // The number of fewer than eight bytes.

@@ -1,6 +1,6 @@
 use mathlib.Core.Path.{refl}
 use Rattle.seals.specs.SipHash.{sipHash, start, compress, finish, sipRound}
-use Rattle.seals.proofs.asked.vector.Needs as need
+use Rattle.seals.proofs.siphash.published_example.Needs as need
 
 pub returns : need.returns
 unfolding sipHash start compress finish sipRound
