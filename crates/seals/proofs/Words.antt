@@ -37,14 +37,12 @@ word-again s t len word rest front back all h f b w e i =
 
 -- the hash of a tag byte and a body: too short for a whole word, or with a first word of seven bytes beside the tag
 pub sip-short : (key body : List ℕ) (tag part r : ℕ) (s : State) → length body < 7 → s ≡ start key → part ≡ number (tag ∷ body) → r ≡ finish (compress s (part + (length body + 1) % 256 * 2 ^ 56)) → r ≡ sipHash key (tag ∷ body)
-unfolding sipHash
 sip-short key body tag part r s h e p f =
     let o : length body + 1 ≡ suc (length body) = add-one (length body) in
     let l = word-last (start key) (suc (length body)) (tag ∷ body) (omega arith) in
     cc
 
 pub sip-long : (key body front back : List ℕ) (tag word r : ℕ) (s t : State) → 7 ≤ length body → front ≡ take 7 body → back ≡ drop 7 body → word ≡ number (tag ∷ front) → s ≡ start key → t ≡ compress s word → r ≡ finish (absorbRest t (length body + 1) back) → r ≡ sipHash key (tag ∷ body)
-unfolding sipHash
 sip-long key body front back tag word r s t h f b w e d g =
     let o : length body + 1 ≡ suc (length body) = add-one (length body) in
     let m = word-more (start key) (suc (length body)) (tag ∷ body) (omega arith) in

@@ -5,6 +5,7 @@ use mathlib.Core.List.{List}
 use mathlib.Core.Bool.{Bool, false, cond, _&&_}
 use lib.Dec.{T, leb, eqb}
 use lib.ListN.{length, take, drop}
+use Rattle.std.specs.Orderings.{Decides}
 use Rattle.std.specs.declared.option.Option.{Option}
 use Rattle.std.specs.declared.option.Option.the-variants.{Some, None}
 use Rattle.std.specs.shelf.Text.{sameBytes}
@@ -40,7 +41,11 @@ isSeal (Some good) seal = sameBytes good seal
 abbrev pub houseAccepts : List ℕ → ℕ → List ℕ → List ℕ → Bool
 houseAccepts keys seat statement seal = isSeal (houseSeal keys seat statement) seal
 
--- so every good seal has eight bytes
+-- the statement of that: under any keys, a seal is good exactly if it is the one that the signing box makes
+abbrev pub OneGoodSeal : Type 0
+OneGoodSeal = (keys : List ℕ) (seat : ℕ) (statement seal : List ℕ) → Decides (houseAccepts keys seat statement seal) (houseSeal keys seat statement ≡ Some seal)
+
+-- every good seal has eight bytes
 pub house-sized : (keys : List ℕ) (seat : ℕ) (statement seal : List ℕ) → T (houseAccepts keys seat statement seal) → length seal ≡ 8
 house-sized keys seat statement seal h = is-sized (keyOf keys seat) h
   where

@@ -63,7 +63,7 @@ wordsOf (suc k) len rest = number (take 8 rest) ∷ wordsOf k len (drop 8 rest)
 abbrev pub absorbRest : State → ℕ → List ℕ → State
 absorbRest s len rest = absorb s (wordsOf (length rest / 8) len rest)
 
-unfoldable pub sipHash : List ℕ → List ℕ → ℕ
+abbrev pub sipHash : List ℕ → List ℕ → ℕ
 sipHash key message = finish (absorbRest (start key) (length message) message)
 
 -- so many bytes in rising order, from a first one on

@@ -1,13 +1,10 @@
 // House seals: the house keeps a key for each seat, and a seal is the hash of the statement under the seat's key.
 ghost use denote.Ref.{now};
 ghost use mathlib.Core.Path.{_≡_};
-ghost use mathlib.Core.List.{List, _∷_};
-ghost use Prim.Native.Nat.{ℕ};
-ghost use Rattle.std.specs.Orderings.{Decides};
-ghost use Rattle.std.specs.declared.option.Option.the-variants.{Some};
+ghost use mathlib.Core.List.{_∷_};
 ghost use Rattle.rota.specs.Limits.{MadeWithin};
 ghost use Rattle.seals.specs.Checks.{eight};
-ghost use Rattle.seals.specs.House.{keysLawful, houseSeal, houseAccepts, house-sized};
+ghost use Rattle.seals.specs.House.{keysLawful, houseSeal, isSeal, houseAccepts, house-sized, OneGoodSeal};
 use crate::bytes::same_bytes;
 use crate::check::SealCheck;
 use crate::siphash::KEY_LENGTH;
@@ -39,10 +36,17 @@ impl<'a> HouseSeals<'a> {
     // the seat has no key.
     pub fn sign(&self, seat: u8, tag: u8, body: &[u8]) -> Option<[u8; HouseSeals::SEAL_LENGTH]>
         ensures seal { λ r. ⌜ r ≡ houseSeal (now (now (self .entry) .keys)) seat (tag ∷ now (body .entry)) ⌝ }
-        ensures alone { λ r. ⌜ ((x : List ℕ) → Decides (houseAccepts (now (now (self .entry) .keys)) seat (tag ∷ now (body .entry)) x) (r ≡ Some x)) ⌝ }
+        ensures alone { λ r. ⌜ houseAccepts (now (now (self .entry) .keys)) seat (tag ∷ now (body .entry)) ≡ isSeal r ⌝ }
     {
         seal_of(self.keys, seat, tag, body)
     }
+}
+
+// That a seal is good exactly if it is the one that the signing box makes.
+pub fn one_good_seal() -> u8
+    ensures { λ _. ⌜ OneGoodSeal ⌝ }
+{
+    0
 }
 
 fn seal_of(keys: &[u8], seat: u8, tag: u8, body: &[u8]) -> Option<[u8; HouseSeals::SEAL_LENGTH]>

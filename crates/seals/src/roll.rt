@@ -3,7 +3,7 @@ ghost use denote.Ref.{now};
 ghost use mathlib.Core.Path.{_≡_};
 ghost use mathlib.Core.List.{_∷_};
 ghost use Rattle.seals.specs.Checks.{eight};
-ghost use Rattle.seals.specs.Rolls.{isLine, listed, rollAccepts, roll-sized};
+ghost use Rattle.seals.specs.Rolls.{isLine, listed, rollAccepts, roll-sized, OnlyItsLines};
 use crate::bytes::is_statement;
 use crate::bytes::same_bytes;
 use crate::check::SealCheck;
@@ -52,6 +52,13 @@ impl<'s> RollLine<'s> {
         (self.seat == seat)
             & (is_statement(self.statement, tag, body) & same_bytes(&self.seal, seal))
     }
+}
+
+// That the roll says yes exactly for the lines of its list.
+pub fn only_its_lines() -> u8
+    ensures { λ _. ⌜ OnlyItsLines ⌝ }
+{
+    0
 }
 
 fn any_is(lines: &[RollLine], seat: u8, tag: u8, body: &[u8], seal: &[u8]) -> bool
