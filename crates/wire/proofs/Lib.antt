@@ -1,9 +1,11 @@
 pub mod Bodies
 pub mod FirstByte
 pub mod Keeping
+pub mod Located
 pub mod OneForm
 pub mod Ones
 pub mod Peeling
 pub mod Places
+pub mod RowsAsked
 pub mod SealRows
 pub mod Steps

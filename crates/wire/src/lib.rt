@@ -1,4 +1,5 @@
 // The messages between seats: their bytes, read and written.
+pub mod asking;
 pub mod block;
 pub(crate) mod fields;
 pub(crate) mod masks;
