@@ -1,7 +1,7 @@
 -- Lemmas on what reading contents answers.
 use Prim.Native.Nat.{ℕ, _≤_}
 use mathlib.Core.Path.{_≡_, refl, ap, _∙_}
-use mathlib.Core.Bool.{Bool, true, false, cond}
+use mathlib.Core.Bool.{Bool, true, false, cond, _&&_}
 use mathlib.Core.List.{List, _++_}
 use native.Mathlib.Omega.{arith}
 use lib.Dec.{ltb}
@@ -22,6 +22,14 @@ use Rattle.content.specs.Kinds.{Bytes, Kind, readContent, writeAnswer, writeMe
 pub decides-when : {X : Type 0} (b : Bool) (x : X) → Decides b (whenTrue b x ≡ Some x)
 decides-when true x = (λ _. refl, λ _. refl)
 decides-when false x = (λ e. absurd (false≢true e), λ e. when-is false x x e .0)
+
+-- a record that its own bytes are read as, by the kind's test
+pub decides-read : {R : Type 0} (test : R → Bool) (b : Bool) (x r : R) → b ≡ true → x ≡ r → Decides (test r) (whenTrue (b && test x) x ≡ Some r)
+decides-read test b x r p q = rw (p, q) (decides-when (test r) r)
+
+-- bytes of another length are not read
+pub unread : {R : Type 0} (a b : Bool) (x : R) → a ≡ false → None ≡ whenTrue (a && b) x
+unread a b x e = rw e
 
 -- what is read from a slice of any length is what the kind reads
 pub read-is : {L : ℕ} {R : Type 0} (k : Kind L R) (xs : List ℕ) (r : R) → readContent k xs ≡ Ok r → k .reads xs ≡ Some r

@@ -20,13 +20,13 @@ use Rattle.content.specs.declared.edit.EditRecord.{EditRecord}
 use Rattle.std.proofs.shelf.Tests.{false≢true, and-parts, eqb-true, ne-eqb}
 use Rattle.content.specs.declared.refusal.Refusal.{Refusal}
 use Rattle.content.specs.declared.refusal.Refusal.the-variants.{NoContent}
-use Rattle.content.specs.Edits.{edits, editAt, editShown, stands, value, within, isEdit, named, called, kept, okIf, editOf, recordOf, editFrom, editBytes}
+use Rattle.content.specs.Edits.{edits, editAt, editShown, stands, value, within, isEdit, named, called, kept, editOf, recordOf, editFrom, editBytes}
 use Rattle.std.proofs.shelf.Results.{made-weaker}
 use Rattle.std.specs.Options.{okOr, whenTrue}
 use Rattle.std.specs.Vec.{made}
-use Rattle.content.specs.Kinds.{Bytes, Lawful, next, readContent, writeAnswer, writeMemory}
+use Rattle.content.specs.Kinds.{Bytes, Lawful, next, okIf, readContent, writeAnswer, writeMemory}
 use Rattle.content.specs.Numbers.{number, spell, number-spell}
-use Rattle.content.proofs.Contents.{decides-when, read-back, written-front}
+use Rattle.content.proofs.Contents.{decides-read, read-back, written-front}
 
 -- two numbers written over an array whose first byte is set
 pub written : (t m n : ℕ) (xs ys : List ℕ) → xs ≡ spell 8 m → ys ≡ spell 8 n → putMid 9 8 (putMid 1 8 (t ∷ replicate 16 0) xs) ys ≡ t ∷ (spell 8 m ++ spell 8 n)
@@ -40,8 +40,7 @@ pub editAt-shown : (e : EditRecord) → e .first < 2 ^ 64 → e .second < 2 ^ 64
 editAt-shown e h k = record-is (e .tag) _ _ _ _ (number-spell 8 (e .first) h) (number-spell 8 (e .second) k)
 
 pub stands-lawful : (e : EditRecord) → e .first < 2 ^ 64 → e .second < 2 ^ 64 → Decides (stands e) (Lawful edits e)
-stands-lawful e h k =
-    subst (λ (x : EditRecord). Decides (stands e) (whenTrue (stands x) x ≡ Some e)) (sym (editAt-shown e h k)) (decides-when (stands e) e)
+stands-lawful e h k = decides-read stands true _ e refl (editAt-shown e h k)
 
 ok-when : {X : Type 0} (b : Bool) (x : X) → b ≡ true → okIf b x ≡ Ok x
 ok-when b x e = rw e

@@ -13,14 +13,13 @@ use Rattle.std.specs.declared.option.Option.the-variants.{Some}
 use Rattle.std.specs.declared.result.Result.{Result}
 use Rattle.std.specs.declared.result.Result.the-variants.{Ok}
 use Rattle.std.proofs.shelf.Tests.{eqb-true, and-parts}
-use Rattle.std.specs.Options.{okOr, whenTrue}
-use Rattle.content.specs.Kinds.{Bytes, Kind, next, readContent, when-is}
+use Rattle.std.specs.Options.{whenTrue}
+use Rattle.content.specs.Kinds.{Bytes, Kind, next, okIf, readContent, joins, when-is}
 use Rattle.content.specs.Numbers.{number, spell, spell-all, bytes-take, bytes-drop}
 use Rattle.content.specs.declared.edit.Edit.{Edit}
 use Rattle.content.specs.declared.edit.Edit.the-variants.{Trim, Gain, Undo, Save}
 use Rattle.content.specs.declared.edit.EditRecord.{EditRecord}
 use Rattle.content.specs.declared.refusal.Refusal.{Refusal}
-use Rattle.content.specs.declared.refusal.Refusal.the-variants.{NoContent}
 
 -- the IEEE 754 binary64 number of a bit pattern
 abbrev pub value : ℕ → Float
@@ -78,9 +77,6 @@ edit-back (x ∷ ys) e h r =
     let two = spell-all 8 (take 8 (drop 8 ys)) (bytes-take 8 (drop 8 ys) (bytes-drop 8 ys b)) q in
     let parts = joins _ _ _ _ one (two ∙ take-all 8 (drop 8 ys) n) ∙ take-append-drop 8 ys in
     ap editShown (sym (when-is _ _ e r .1)) ∙ ap (λ (zs : List ℕ). x ∷ zs) parts
-  where
-    joins : (xs ys us vs : List ℕ) → xs ≡ us → ys ≡ vs → xs ++ ys ≡ us ++ vs
-    joins xs ys us vs p q = cc
 
 abbrev pub edits : Kind 17 EditRecord
 edits = record { reads = editReads; shown = editShown; low = lit≤ tt; high = lit≤ tt; sized = edit-sized; back = edit-back }
@@ -88,10 +84,6 @@ edits = record { reads = editReads; shown = editShown; low = lit≤ tt; high = l
 -- the edit of a tag and two numbers
 abbrev pub named : ℕ → Float → Float → Edit
 named tag x y = cond (eqb tag 0) (Trim x y) (cond (eqb tag 1) (Gain x y) (cond (eqb tag 2) Undo Save))
-
--- a value that is content, if a test says yes
-abbrev pub okIf : {X : Type 0} → Bool → X → Result X Refusal
-okIf b x = okOr (whenTrue b x) (NoContent 0)
 
 -- the edit that a record stands for
 abbrev pub called : EditRecord → Edit

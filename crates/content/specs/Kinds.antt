@@ -22,6 +22,9 @@ pub when-is : {X : Type 0} (b : Bool) (x y : X) → whenTrue b x ≡ Some y → 
 when-is true x y e = (refl, cc)
 when-is false x y e = absurd (let z : _≡_ {A = ℕ} 0 1 = cc in omega arith)
 
+pub joins : (xs ys us vs : List ℕ) → xs ≡ us → ys ≡ vs → xs ++ ys ≡ us ++ vs
+joins xs ys us vs p q = cc
+
 -- A kind of content with length L and records R: which lists of bytes are content, and as which record
 -- they are kept (`reads`), the bytes of a record (`shown`), and the laws that every kind owes.
 pub record Kind (L : ℕ) (R : Type 0) : Type 0 where
@@ -61,3 +64,7 @@ fronted n (Err e) mem = mem
 -- what the memory holds then: the bytes and then what stood there, and all as it was where anything is refused
 abbrev pub writeMemory : ℕ → Result (List ℕ) Refusal → List ℕ → List ℕ
 writeMemory n ys mem = cond (ltb (length mem) n) mem (fronted n ys mem)
+
+-- a value that is content, if a test says yes
+abbrev pub okIf : {X : Type 0} → Bool → X → Result X Refusal
+okIf b x = okOr (whenTrue b x) (NoContent 0)

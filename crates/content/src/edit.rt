@@ -1,16 +1,16 @@
 // An edit of a recording: a trim, a gain, an undo or a save, in 17 bytes.
 ghost use mathlib.Core.Path.{_≡_};
 ghost use lib.Ieee.{binary64, toBits};
-ghost use lib.ListN.{length, take};
+ghost use lib.ListN.{take};
 ghost use Rattle.content.specs.Edits.{value, within, isSecond, isGain, below, isEdit, edits, named, called, kept, editOf, recordOf, editFrom, editBytes};
 ghost use Rattle.content.specs.Kinds.{Lawful, writeAnswer, writeMemory};
 ghost use Rattle.std.specs.Vec.{made};
 ghost use Rattle.std.specs.declared.result.Result.the-variants.{Ok};
-ghost use Rattle.content.specs.Numbers.{number};
 use crate::kind::Content;
 use crate::kind::read_content;
 use crate::kind::write_content;
 use crate::refusal::Refusal;
+use crate::word::word64;
 use std::num::f64_from_bits_with_nan;
 use std::num::f64_to_bits_with_nan;
 
@@ -63,17 +63,6 @@ fn is_below(a: u64, b: u64) -> bool
     ensures { λ r. ⌜ r ≡ below a b ⌝ }
 {
     f64_from_bits_with_nan(a) < f64_from_bits_with_nan(b)
-}
-
-// The number that 8 bytes spell, low byte first.
-fn word(bytes: &[u8]) -> u64
-    requires { ⌜ length (now bytes) ≡ 8 ⌝ }
-    ensures { λ r. ⌜ r ≡ number (now (bytes .entry)) ⌝ }
-{
-    match bytes {
-        [a, b, c, d, e, f, g, h] => u64::from_le_bytes([*a, *b, *c, *d, *e, *f, *g, *h]),
-        _ => unreachable(),
-    }
 }
 
 // The bits of a number, which give it back.
@@ -205,8 +194,8 @@ pub impl Content<{ Edit::LEN }> for Edit as EditContent {
             return None;
         }
         let tag = src[0];
-        let first = word(&src[1..9]);
-        let second = word(&src[9..17]);
+        let first = word64(&src[1..9]);
+        let second = word64(&src[9..17]);
         if is_edit(tag, first, second) {
             Some(EditRecord { tag, first, second })
         } else {

@@ -114,18 +114,18 @@ pub record Found {L : ℕ} {R : Type 0} (k : Kind L R) (xs : List ℕ) (p : R ×
 
 module _ {L : ℕ} {R : Type 0} (k : Kind L R) (S n : ℕ) where
   found : (at : ℕ) (xs : List ℕ) (p : List ℕ × List ℕ) → Peeled L xs p → (o : Option R) → k .reads (p .0) ≡ o
-      → Gives (contentOf k S n at (p .1) o) (Found k xs)
+      → Gives (contentOf at (p .1) o) (Found k xs)
   found at xs p h None e = gives-err (Found k xs) _
   found at xs p h (Some r) e =
       let b : k .shown r ≡ p .0 = k .back (p .0) r (h .bytes) e in
       gives-ok (Found k xs) (r, p .1) (record { lawful = rw b e; back = rw b (h .back); rest = h .rest })
 
-  pub content-back : (at : ℕ) (xs : List ℕ) → Bytes xs → Gives (peelContent k S n at xs) (Found k xs)
+  pub content-back : (at : ℕ) (xs : List ℕ) → Bytes xs → Gives (peelContent k at xs) (Found k xs)
   content-back at xs h = gives-next (peel L at xs) _ (peel-back L at xs h) (λ p q. found at xs p q (k .reads (p .0)) refl)
 
-  pub content-forth : (at : ℕ) (r : R) (rest : List ℕ) → Lawful k r → peelContent k S n at (k .shown r ++ rest) ≡ Ok (r, rest)
+  pub content-forth : (at : ℕ) (r : R) (rest : List ℕ) → Lawful k r → peelContent k at (k .shown r ++ rest) ≡ Ok (r, rest)
   content-forth at r rest h =
-      next-forth _ (peel-forth L at (k .shown r) rest (k .sized (k .shown r) r h)) (ap (λ o. contentOf k S n at rest o) h)
+      next-forth _ (peel-forth L at (k .shown r) rest (k .sized (k .shown r) r h)) (ap (λ o. contentOf at rest o) h)
 
   pub record BlockFound (xs : List ℕ) (p : Block R × List ℕ) : Type 0 where
     pub lawful : LawfulBlock k (p .0)
@@ -139,7 +139,7 @@ module _ {L : ℕ} {R : Type 0} (k : Kind L R) (S n : ℕ) where
   pub three : (a b c rest r₂ r₁ xs : List ℕ) → a ++ r₁ ≡ xs → b ++ r₂ ≡ r₁ → c ++ rest ≡ r₂ → (a ++ (b ++ c)) ++ rest ≡ xs
   three a b c rest r₂ r₁ xs h₁ h₂ h₃ = simp append-assoc (cc)
 
-  pub block-back : (at : ℕ) (xs : List ℕ) → Bytes xs → Gives (peelBlock k S n at xs) (BlockFound xs)
+  pub block-back : (at : ℕ) (xs : List ℕ) → Bytes xs → Gives (peelBlock k at xs) (BlockFound xs)
   block-back at xs h =
       gives-next (peelNumber 2 at xs) _ (number-back 2 at xs h) (λ view v.
       gives-next (peelNumber 2 (at + 2) (view .1)) _ (number-back 2 (at + 2) (view .1) (v .rest)) (λ turn t.
@@ -147,7 +147,7 @@ module _ {L : ℕ} {R : Type 0} (k : Kind L R) (S n : ℕ) where
       gives-next (peelNumber 2 (at + 8) (height .1)) _ (number-back 2 (at + 8) (height .1) (g .rest)) (λ pview pv.
       gives-next (peelNumber 2 (at + 10) (pview .1)) _ (number-back 2 (at + 10) (pview .1) (pv .rest)) (λ pturn pt.
       gives-if (lawfulNumbers (view .0) (turn .0) (height .0) (pview .0) (pturn .0)) _ (BadLayout at) (λ numbers.
-      gives-next (peelContent k S n (at + 12) (pturn .1)) _ (content-back (at + 12) (pturn .1) (pt .rest)) (λ content c.
+      gives-next (peelContent k (at + 12) (pturn .1)) _ (content-back (at + 12) (pturn .1) (pt .rest)) (λ content c.
       gives-ok (BlockFound xs) _
       (record {
         lawful = record {
@@ -165,7 +165,7 @@ module _ {L : ℕ} {R : Type 0} (k : Kind L R) (S n : ℕ) where
         rest = c .rest;
       }))))))))
 
-  pub block-forth : (at : ℕ) (b : Block R) (rest : List ℕ) → LawfulBlock k b → peelBlock k S n at (blockBytes k b ++ rest) ≡ Ok (b, rest)
+  pub block-forth : (at : ℕ) (b : Block R) (rest : List ℕ) → LawfulBlock k b → peelBlock k at (blockBytes k b ++ rest) ≡ Ok (b, rest)
   block-forth at b rest h =
       let r₅ : List ℕ = k .shown (b .content) ++ rest in
       let r₄ : List ℕ = spell 2 (b .parent .turn) ++ r₅ in
@@ -188,7 +188,7 @@ module _ {L : ℕ} {R : Type 0} (k : Kind L R) (S n : ℕ) where
 
   pub body-back : (at : ℕ) (xs : List ℕ) → Bytes xs → Gives (peelBody k S n at xs) (BodyFound xs)
   body-back at xs h =
-      gives-next (peelBlock k S n at xs) _ (block-back at xs h) (λ block b.
+      gives-next (peelBlock k at xs) _ (block-back at xs h) (λ block b.
       gives-next (peelMask n (at + 12 + L) (block .1)) _ (mask-back n (at + 12 + L) (block .1) (b .rest)) (λ mask m.
       gives-next (peelSeals S (quorum n) (at + 14 + L) (mask .1)) _ (seals-back S (quorum n) (at + 14 + L) (mask .1) (m .rest)) (λ seals s.
       gives-ok (BodyFound xs) _

@@ -12,11 +12,11 @@ use Rattle.content.specs.Numbers.{spell}
 use Rattle.content.proofs.Numbers.{length-spell}
 use Rattle.wire.specs.Lawful.{LawfulBlock, LawfulParts}
 use Rattle.wire.specs.Layout.{blockBytes, bodyBytes, parentBytes, messageBytes}
-use Rattle.wire.specs.Meaning.{Slice, plainCertificate, plainParent}
+use Rattle.wire.specs.Meaning.{Slice, plain, plainCertificate, plainParent}
 use Rattle.wire.specs.declared.block.Block.{Block}
 use Rattle.wire.specs.declared.message.Certificate.{Certificate}
 use Rattle.wire.specs.declared.message.Parts.{Parts}
-use Rattle.wire.specs.declared.message.Parts.the-variants.{Proposal, Vote, Blame, Certified, Notice}
+use Rattle.wire.specs.declared.message.Parts.the-variants.{Proposal, Vote, Certified}
 
 pub record Lies (at len : ℕ) (xs mid : List ℕ) : Type 0 where
   pub is : take len (drop at xs) ≡ mid
@@ -53,16 +53,16 @@ module _ {L : ℕ} {R : Type 0} (k : Kind L R) (S n : ℕ) where
       (omega (arith, h′ .1))
       (block-length (c .block) (h′ .2 .1 .0))
 
-  pub vote-lies : (seat : ℕ) (b : Block R) (seal xs : List ℕ) → messageBytes k (Vote seat b seal) ≡ xs → LawfulParts k S n (Vote seat b seal)
-      → Lies 2 (12 + L) xs (blockBytes k b)
-  vote-lies seat b seal xs e h = lies (2 ∷ (seat ∷ [])) (blockBytes k b) _ xs 2 (12 + L) e refl (block-length b (h .1))
+  pub vote-lies : (m : Parts R Slice) (seat : ℕ) (b : Block R) (seal : Slice) (xs : List ℕ) → m ≡ Vote seat b seal
+      → messageBytes k (plain m) ≡ xs → LawfulParts k S n (plain m) → Lies 2 (12 + L) xs (blockBytes k b)
+  vote-lies m seat b seal xs p e h =
+      let e′ : messageBytes k (plain (Vote seat b seal)) ≡ xs = rw p at e in
+      let h′ : LawfulParts k S n (plain (Vote seat b seal)) = rw p at h in
+      lies (2 ∷ (seat ∷ [])) (blockBytes k b) _ xs 2 (12 + L) e′ refl (block-length b (h′ .1))
 
-  pub blame-lies : (seat view : ℕ) (seal xs : List ℕ) → messageBytes k (Blame seat view seal) ≡ xs → Lies 2 2 xs (spell 2 view)
-  blame-lies seat view seal xs e = lies (3 ∷ (seat ∷ [])) (spell 2 view) _ xs 2 2 e refl refl
-
-  pub certified-lies : (c : Certificate R (List ℕ)) (xs : List ℕ) → messageBytes k (Certified c) ≡ xs → LawfulParts k S n (Certified c)
-      → Lies 1 (12 + L) xs (blockBytes k (c .block))
-  certified-lies c xs e h = lies (4 ∷ []) (blockBytes k (c .block)) _ xs 1 (12 + L) e refl (block-length (c .block) (h .0))
-
-  pub notice-lies : (view mask : ℕ) (seals xs : List ℕ) → messageBytes k (Notice view mask seals) ≡ xs → Lies 1 2 xs (spell 2 view)
-  notice-lies view mask seals xs e = lies (5 ∷ []) (spell 2 view) _ xs 1 2 e refl refl
+  pub certified-lies : (m : Parts R Slice) (c : Certificate R Slice) (xs : List ℕ) → m ≡ Certified c
+      → messageBytes k (plain m) ≡ xs → LawfulParts k S n (plain m) → Lies 1 (12 + L) xs (blockBytes k (c .block))
+  certified-lies m c xs p e h =
+      let e′ : messageBytes k (plain (Certified c)) ≡ xs = rw p at e in
+      let h′ : LawfulParts k S n (plain (Certified c)) = rw p at h in
+      lies (4 ∷ []) (blockBytes k (c .block)) _ xs 1 (12 + L) e′ refl (block-length (c .block) (h′ .0))

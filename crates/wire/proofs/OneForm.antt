@@ -69,7 +69,7 @@ module _ {L : ℕ} {R : Type 0} (k : Kind L R) (S n : ℕ) where
       gives-next (peelBody k S n (13 + L + S) rest) _ (body-back k S n (13 + L + S) rest bytes) (λ c found.
       gives-next (ended total c) _ (gives-ended (Ended rest) total c (λ end. (last-one (bodyBytes k (c .0)) (c .1) rest (found .back) end, found .lawful)))
       (λ parent whole.
-      gives-if (isParent k S n b parent) _ (WrongParent (13 + L + S)) (λ names.
+      gives-if (isParent b parent) _ (WrongParent (13 + L + S)) (λ names.
       gives-ok (Whole (1 ∷ xs)) _ (
         ap (λ ys. 1 ∷ ys) (next-two (blockBytes k b) seal (bodyBytes k parent) rest r₁ xs back sealed (whole .0)),
         (lawful, sized, (eqb-false (b .height) 1 high, whole .1, names)),
@@ -77,14 +77,14 @@ module _ {L : ℕ} {R : Type 0} (k : Kind L R) (S n : ℕ) where
 
   proposal-back : (total : ℕ) (xs : List ℕ) → Bytes xs → Gives (readProposal k S n total xs) (Whole (1 ∷ xs))
   proposal-back total xs h =
-      gives-next (peelBlock k S n 1 xs) _ (block-back k S n 1 xs h) (λ block b.
+      gives-next (peelBlock k 1 xs) _ (block-back k S n 1 xs h) (λ block b.
       gives-next (peel S (13 + L) (block .1)) _ (peel-back S (13 + L) (block .1) (b .rest)) (λ seal s.
       proposal-of total (block .0) (seal .0) (seal .1) (block .1) xs (b .lawful) (s .rest) (s .sized) (b .back) (s .back)))
 
   vote-back : (total : ℕ) (xs : List ℕ) → Bytes xs → Gives (readVote k S n total xs) (Whole (2 ∷ xs))
   vote-back total xs h =
       gives-next (peelSeat n 1 xs) _ (seat-back n 1 xs h) (λ seat i.
-      gives-next (peelBlock k S n 2 (seat .1)) _ (block-back k S n 2 (seat .1) (i .rest)) (λ block b.
+      gives-next (peelBlock k 2 (seat .1)) _ (block-back k S n 2 (seat .1) (i .rest)) (λ block b.
       gives-next (peel S (14 + L) (block .1)) _ (peel-back S (14 + L) (block .1) (b .rest)) (λ seal s.
       gives-ended (Whole (2 ∷ xs)) total (Vote (seat .0) (block .0) (seal .0), seal .1) (λ end.
       let f : blockBytes k (block .0) ++ seal .0 ≡ seat .1 = last-two (blockBytes k (block .0)) (seal .0) (seal .1) (block .1) (seat .1) (b .back) (s .back) end in
@@ -162,7 +162,7 @@ module _ {L : ℕ} {R : Type 0} (k : Kind L R) (S n : ℕ) where
       proposal-forth total b seal (bodyBytes k c) _ (h .0) (h .1)
       (cond-false (eqb (b .height) 1) _ _ (ne-eqb (b .height) 1 (h .2 .0))
       ∙ next-forth _ (at-end (λ xs. peelBody k S n (13 + L + S) xs) (bodyBytes k c) ∙ body-forth k S n (13 + L + S) c [] (h .2 .1))
-      (cond-true (isParent k S n b c) _ _ (h .2 .2)))
+      (cond-true (isParent b c) _ _ (h .2 .2)))
   one-form-forth (Vote seat b seal) h =
       next-forth _ (seat-forth n 1 seat (blockBytes k b ++ seal) (h .0))
       (next-forth _ (block-forth k S n 2 b seal (h .1))

@@ -45,7 +45,7 @@ module _ {L : ℕ} {R : Type 0} (k : Kind L R) (S n : ℕ) where
   -- above height 1, and only there, a proposal carries its parent's certificate
   abbrev pub LawfulParent : Block R → Option (Certificate R (List ℕ)) → Type 0
   LawfulParent b None = b .height ≡ 1
-  LawfulParent b (Some c) = (b .height ≡ 1 → ⊥) × LawfulBody c × (isParent k S n b c ≡ true)
+  LawfulParent b (Some c) = (b .height ≡ 1 → ⊥) × LawfulBody c × (isParent b c ≡ true)
 
   abbrev pub LawfulParts : Parts R (List ℕ) → Type 0
   LawfulParts (Proposal block seal parent) = LawfulBlock k block × (length seal ≡ S) × LawfulParent block parent

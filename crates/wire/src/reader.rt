@@ -1,15 +1,12 @@
 // Reading a message: its first byte chooses the layout, then each field is taken off the front of what is left.
 ghost use mathlib.Core.Path.{_≡_};
 ghost use Prim.Native.Nat.{ℕ, _+_, _<_, _≤_, _^_};
-ghost use mathlib.Core.Bool.{_&&_};
-ghost use lib.Dec.{eqb};
 ghost use lib.ListN.{length};
 ghost use Rattle.std.specs.Vec.{made};
 ghost use Rattle.wire.specs.Lawful.{LawfulParts};
 ghost use Rattle.wire.specs.Layout.{messageBytes};
 ghost use Rattle.wire.specs.Meaning.{behind, behindBy, plainCertificate, plain, plainBody, plainly, meant};
-ghost use Rattle.wire.specs.Ranks.{sameRank};
-ghost use Rattle.wire.specs.Reading.{next, peelContent, peelBlock, peelBody, ended, readProposal, readVote, readBlame, readCertified, readNotice, readKind, readParts};
+ghost use Rattle.wire.specs.Reading.{next, peelContent, peelBlock, peelBody, isParent, ended, readProposal, readVote, readBlame, readCertified, readNotice, readKind, readParts};
 use crate::block::Block;
 use crate::block::Rank;
 use crate::fields::take_mask;
@@ -30,7 +27,7 @@ fn take_content<const L: usize, C: Content<L>>(
     src: &[u8],
     at: usize,
 ) -> Result<(C::Record, &[u8]), Refusal>
-    ensures value { λ r. ⌜ behind r ≡ peelContent (C·Content .kind) 0 0 at (now (src .entry)) ⌝ }
+    ensures value { λ r. ⌜ behind r ≡ peelContent (C·Content .kind) at (now (src .entry)) ⌝ }
     ensures left { λ r. ⌜ made r (λ p. length (p .1 .now) + L ≡ length (now (src .entry))) ⌝ }
 {
     if src.len() < L {
@@ -49,7 +46,7 @@ fn take_block<const L: usize, C: Content<L>>(
     at: usize,
 ) -> Result<(Block<C::Record>, &[u8]), Refusal>
     requires { ⌜ at < 2 ^ 63 ⌝ }
-    ensures value { λ r. ⌜ behind r ≡ peelBlock (C·Content .kind) 0 0 at (now (src .entry)) ⌝ }
+    ensures value { λ r. ⌜ behind r ≡ peelBlock (C·Content .kind) at (now (src .entry)) ⌝ }
     ensures left { λ r. ⌜ made r (λ p. length (p .1 .now) + 12 + L ≡ length (now (src .entry))) ⌝ }
 {
     let (view, src) = take_u16(src, at)?;
@@ -189,10 +186,11 @@ fn read_notice<'a, const L: usize, const S: usize, C: Content<L>>(
 }
 
 // Whether a certificate is that of the parent which a block names.
-fn is_parent<R: Copy>(block: &Block<R>, certified: &Block<R>) -> bool
-    ensures { λ r. ⌜ r ≡ (sameRank (now (certified .entry) .rank) (now (block .entry) .parent) && eqb (now (certified .entry) .height + 1) (now (block .entry) .height)) ⌝ }
+pub(crate) fn is_parent<R: Copy, T: Copy>(block: &Block<R>, certificate: &Certificate<R, T>) -> bool
+    ensures { λ r. ⌜ r ≡ isParent (now (block .entry)) (now (certificate .entry)) ⌝ }
 {
-    certified.rank.same(block.parent) & (certified.height as u64 + 1 == block.height as u64)
+    let below = &certificate.block;
+    below.rank.same(block.parent) & (below.height as u64 + 1 == block.height as u64)
 }
 
 fn read_proposal<'a, const L: usize, const S: usize, C: Content<L>>(
@@ -218,7 +216,7 @@ fn read_proposal<'a, const L: usize, const S: usize, C: Content<L>>(
     }
     let at = 13 + L + S;
     let parent = last_body::<L, S, C>(seats, total, src, at)?;
-    if !is_parent(&block, &parent.block) {
+    if !is_parent(&block, &parent) {
         return Err(Refusal::WrongParent { at });
     }
     Ok(Parts::Proposal {

@@ -1,9 +1,7 @@
 // The number of seats of a log.
 ghost use mathlib.Core.Path.{_≡_};
-ghost use mathlib.Core.Bool.{true, false};
-ghost use Rattle.rota.specs.Limits.{seatsLawful};
-ghost use Rattle.std.specs.declared.result.Result.the-variants.{Ok, Err};
-ghost use Rattle.content.specs.declared.refusal.Refusal.the-variants.{OutOfLimits};
+ghost use mathlib.Core.Bool.{true};
+ghost use Rattle.rota.specs.Limits.{seatsLawful, MadeWithin};
 ghost use Rattle.wire.specs.Masks.{quorum};
 use content::refusal::Refusal;
 use rota::leaders::seats_in_limits;
@@ -17,7 +15,7 @@ pub struct SeatCount {
 
 impl SeatCount {
     pub fn new(n: u8) -> Result<SeatCount, Refusal>
-        ensures { λ r. ⌜ elim r [ Ok s ↦ (seatsLawful n ≡ true) × (s .n ≡ n) | Err e ↦ (seatsLawful n ≡ false) × (e ≡ OutOfLimits) ] ⌝ }
+        ensures { λ r. ⌜ MadeWithin (seatsLawful n) (λ s. s .n ≡ n) r ⌝ }
     {
         if !seats_in_limits(n) {
             return Err(Refusal::OutOfLimits);
@@ -25,6 +23,7 @@ impl SeatCount {
         Ok(SeatCount { n })
     }
 
+    // How many seats there are.
     pub fn get(&self) -> u8
         ensures { λ r. ⌜ r ≡ now (self .entry) .n ⌝ }
     {

@@ -16,7 +16,7 @@ returns-in-Break-ask g c =
     let k = g .C·Content .kind in
     let p = err-from-errBy (c .from-residual .result) (c .from-residual .ensures .1) in
     let own = proposal-lies k (g .S) (c .args .n) _ _ _ _ (c .pre .back) (c .pre .lawful) in
-    let others = parentAsked k (g .S) (c .args .n) (g .Q·Rota .leads (c .args .rota .now)) (plainParent (c .args .parent)) in
+    let others = parentAsked k (g .S) (c .args .n) (g .Q·Rota .leads (c .args .rota .now)) (plainParent (c .args .parent .now)) in
     record {
       value =
           rw (p .1, p .2)
@@ -27,7 +27,7 @@ returns-in-Break-ask g c =
 
 pub part-requires-in-Some : need.part-requires-in-Some
 part-requires-in-Some g c κs =
-    parent-lies (g .C·Content .kind) (g .S) (c .args .n) _ _ (c .args .parent) (c .in-Some .c) _ (c .in-Some .is) (c .pre .back) (c .pre .lawful) .within
+    parent-lies (g .C·Content .kind) (g .S) (c .args .n) _ _ (c .args .parent .now) (c .in-Some .c) _ (c .in-Some .is) (c .pre .back) (c .pre .lawful) .within
 
 pub returns-in-None : need.returns-in-None
 returns-in-None g c =
@@ -37,7 +37,7 @@ returns-in-None g c =
     let accepts = g .K·SealCheck .accepts (c .args .check .now) in
     record {
       value =
-          first-yes accepts _ _ 1 _ _ (c .args .seal .now) [] (parentAsked k (g .S) (c .args .n) leader (plainParent (c .args .parent))) _ accepts
+          first-yes accepts _ _ 1 _ _ (c .args .seal .now) [] (parentAsked k (g .S) (c .args .n) leader (plainParent (c .args .parent .now))) _ accepts
           (c .leader-leader .ensures) (c .part .ensures ∙ own .is) (ap (λ p. parentAsked k (g .S) (c .args .n) leader (plainParent p)) (sym (c .in-None .is))) refl
           (c .in-Continue-ask .ensures tt .value) refl;
       kept = c .ask .ensures .kept;
@@ -48,14 +48,14 @@ returns-in-Some g c =
     let k = g .C·Content .kind in
     let own = proposal-lies k (g .S) (c .args .n) _ _ _ _ (c .pre .back) (c .pre .lawful) in
     let below =
-    parent-lies k (g .S) (c .args .n) _ _ (c .args .parent) (c .in-Some .c) _ (c .in-Some .is) (c .pre .back) (c .pre .lawful)
+    parent-lies k (g .S) (c .args .n) _ _ (c .args .parent .now) (c .in-Some .c) _ (c .in-Some .is) (c .pre .back) (c .pre .lawful)
     in
     let leader = g .Q·Rota .leads (c .args .rota .now) in
     let row = λ (body : List ℕ). rowAsked (g .S) (c .in-Some .c .mask) 0 (c .args .n) (2 ∷ body) (c .in-Some .c .seals .now) in
     record {
       value =
           first-yes (g .K·SealCheck .accepts (c .args .check .now)) _ _ 1 _ _ (c .args .seal .now) (row (c .part-in-Some .result .now))
-          (parentAsked k (g .S) (c .args .n) leader (plainParent (c .args .parent))) _ (g .K·SealCheck .accepts (c .ask .last .check))
+          (parentAsked k (g .S) (c .args .n) leader (plainParent (c .args .parent .now))) _ (g .K·SealCheck .accepts (c .ask .last .check))
           (c .leader-leader .ensures) (c .part .ensures ∙ own .is)
           (ap row (c .part-in-Some .ensures ∙ below .is) ∙ ap (λ p. parentAsked k (g .S) (c .args .n) leader (plainParent p)) (sym (c .in-Some .is)))
           (c .ask .ensures .kept) (c .in-Continue-ask .ensures tt .value) (c .ask-row .ensures .value);
