@@ -161,21 +161,25 @@ fn other_lengths_are_refused() -> Result<(), Fail> {
     )
 }
 
+// Keeping or writing the edit is refused, and nothing is written.
+fn unwritten(edit: Edit) -> Result<(), Fail> {
+    let mut out = [0xff; 17];
+    check_eq(edit.record().err(), Some(Refusal::NoContent { at: 0 }))?;
+    check_eq(
+        edit.write(&mut out).err(),
+        Some(Refusal::NoContent { at: 0 }),
+    )?;
+    check_eq(out, [0xff; 17])
+}
+
 #[test]
 fn unlawful_edits_are_not_written() -> Result<(), Fail> {
-    let mut out = [0xff; 17];
     for bits in [QUIET_NAN, MINUS_ZERO, PAST_DAY, INFINITY] {
         let x = f64_from_bits_with_nan(bits);
-        check_eq(
-            Edit::Gain(x, 0.0).write(&mut out).err(),
-            Some(Refusal::NoContent { at: 0 }),
-        )?;
-        check_eq(
-            Edit::Trim(x, 5.0).record().err(),
-            Some(Refusal::NoContent { at: 0 }),
-        )?;
+        unwritten(Edit::Gain(x, 0.0))?;
+        unwritten(Edit::Trim(x, 5.0))?;
     }
-    check_eq(out, [0xff; 17])
+    Ok(())
 }
 
 #[test]
