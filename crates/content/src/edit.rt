@@ -1,9 +1,12 @@
 // An edit of a recording: a trim, a gain, an undo or a save, in 17 bytes.
 ghost use mathlib.Core.Path.{_≡_};
+ghost use mathlib.Core.List.{_∷_, _++_};
 ghost use lib.Ieee.{binary64, toBits};
 ghost use lib.ListN.{take};
 ghost use Rattle.content.specs.Edits.{value, within, isSecond, isGain, below, isEdit, edits, named, called, kept, editOf, recordOf, editFrom, editBytes};
 ghost use Rattle.content.specs.Kinds.{Lawful, writeAnswer, writeMemory};
+ghost use Rattle.content.specs.Numbers.{spell};
+ghost use Rattle.std.specs.Orderings.{Decides};
 ghost use Rattle.std.specs.Vec.{made};
 ghost use Rattle.std.specs.declared.result.Result.the-variants.{Ok};
 use crate::kind::Content;
@@ -85,6 +88,14 @@ fn is_edit(tag: u8, first: u64, second: u64) -> bool
     }
 }
 
+// Whether a record with these fields is lawful.
+fn stands(tag: u8, first: u64, second: u64) -> bool
+    ensures answer { λ r. ⌜ r ≡ isEdit tag first second ⌝ }
+    ensures lawful { λ r. ⌜ Decides r (Lawful edits (record { tag = tag; first = first; second = second })) ⌝ }
+{
+    is_edit(tag, first, second)
+}
+
 // The edit of a tag, one that stands.
 fn edit_named(tag: u8, x: f64, y: f64) -> Edit
     ensures { λ r. ⌜ r ≡ named tag x y ⌝ }
@@ -97,20 +108,38 @@ fn edit_named(tag: u8, x: f64, y: f64) -> Edit
     }
 }
 
+// The bytes of a tag and two numbers, low byte first.
+fn laid_out(tag: u8, first: u64, second: u64) -> [u8; 17]
+    ensures { λ r. ⌜ r ≡ tag ∷ (spell 8 first ++ spell 8 second) ⌝ }
+{
+    let mut out = [0; 17];
+    out[0] = tag;
+    out[1..9].copy_from_slice(&first.to_le_bytes());
+    out[9..17].copy_from_slice(&second.to_le_bytes());
+    out
+}
+
 impl EditRecord {
+    // The edit that the record stands for, if it stands.
+    fn called(&self) -> Edit
+        ensures answer { λ r. ⌜ r ≡ called (now (self .entry)) ⌝ }
+        ensures back { λ r. ⌜ (editOf (now (self .entry)) ≡ Ok r → recordOf r ≡ Ok (now (self .entry))) ⌝ }
+    {
+        let first = f64_from_bits_with_nan(self.first);
+        let second = f64_from_bits_with_nan(self.second);
+        edit_named(self.tag, first, second)
+    }
+
     // The edit that the record stands for.
     pub fn edit(&self) -> Result<Edit, Refusal>
         ensures answer { λ r. ⌜ r ≡ editOf (now (self .entry)) ⌝ }
         ensures back { λ r. ⌜ made r (λ e. recordOf e ≡ Ok (now (self .entry))) ⌝ }
     {
-        if !is_edit(self.tag, self.first, self.second) {
-            return Err(Refusal::NoContent { at: 0 });
+        if stands(self.tag, self.first, self.second) {
+            Ok(self.called())
+        } else {
+            Err(Refusal::NoContent { at: 0 })
         }
-        Ok(edit_named(
-            self.tag,
-            f64_from_bits_with_nan(self.first),
-            f64_from_bits_with_nan(self.second),
-        ))
     }
 }
 
@@ -153,9 +182,9 @@ impl Edit {
         ensures back { λ r. ⌜ made r (λ e. editOf e ≡ Ok (now (self .entry))) ⌝ }
         ensures lawful { λ r. ⌜ made r (λ e. Lawful edits e) ⌝ }
     {
-        let rec = self.kept();
-        if is_edit(rec.tag, rec.first, rec.second) {
-            Ok(rec)
+        let kept = self.kept();
+        if stands(kept.tag, kept.first, kept.second) {
+            Ok(kept)
         } else {
             Err(Refusal::NoContent { at: 0 })
         }
@@ -204,11 +233,7 @@ pub impl Content<{ Edit::LEN }> for Edit as EditContent {
     }
 
     fn bytes(rec: &EditRecord) -> [u8; 17] {
-        let mut out = [0; 17];
-        out[0] = rec.tag;
-        out[1..9].copy_from_slice(&rec.first.to_le_bytes());
-        out[9..17].copy_from_slice(&rec.second.to_le_bytes());
-        out
+        laid_out(rec.tag, rec.first, rec.second)
     }
 
     fn same(a: &EditRecord, b: &EditRecord) -> bool {
@@ -216,6 +241,6 @@ pub impl Content<{ Edit::LEN }> for Edit as EditContent {
     }
 
     fn lawful(rec: &EditRecord) -> bool {
-        is_edit(rec.tag, rec.first, rec.second)
+        stands(rec.tag, rec.first, rec.second)
     }
 }

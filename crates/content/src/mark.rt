@@ -1,10 +1,14 @@
 // A chapter mark: a start in whole seconds and a title, in 28 bytes.
 ghost use Prim.Native.Nat.{_≤_};
+ghost use mathlib.Core.Bool.{true, _&&_};
 ghost use mathlib.Core.Path.{_≡_};
+ghost use lib.Dec.{leb};
 ghost use lib.ListN.{length};
 ghost use Rattle.content.specs.Kinds.{Lawful};
 ghost use Rattle.content.specs.Marks.{isText, textLength, allZero, isTitle, isMark, markShown, marks, isHeading, fill, markOf, textOf};
+ghost use Rattle.std.specs.Orderings.{Decides};
 ghost use Rattle.std.specs.Vec.{made};
+ghost use Rattle.std.specs.declared.result.Result.the-variants.{Ok};
 ghost use Rattle.std.specs.shelf.Text.{sameBytes};
 use crate::kind::Content;
 use crate::refusal::Refusal;
@@ -58,9 +62,10 @@ fn is_title(title: &[u8]) -> bool
     (0 < n) & all_zero(&title[n..])
 }
 
-// Whether a start and a title are a chapter mark.
+// Whether a start and a title are a chapter mark, and so a lawful record.
 fn is_mark(start: u32, title: &[u8]) -> bool
-    ensures { λ r. ⌜ r ≡ isMark start (now (title .entry)) ⌝ }
+    ensures answer { λ r. ⌜ r ≡ isMark start (now (title .entry)) ⌝ }
+    ensures lawful { λ r. ⌜ (length (now (title .entry)) ≡ 24 → Decides r (Lawful marks (record { start = start; title = now (title .entry) }))) ⌝ }
 {
     (start <= LAST_SECOND) & is_title(title)
 }
@@ -73,6 +78,12 @@ fn is_heading(text: &[u8]) -> bool
     (0 < n) & ((n <= ChapterMark::TITLE) & (text_length(text) == n))
 }
 
+fn same_title(a: &[u8], b: &[u8]) -> bool
+    ensures { λ r. ⌜ r ≡ sameBytes (now (a .entry)) (now (b .entry)) ⌝ }
+{
+    a == b
+}
+
 // A text filled up with zero bytes.
 fn filled(text: &[u8]) -> [u8; 24]
     requires { ⌜ length (now text) ≤ 24 ⌝ }
@@ -81,6 +92,17 @@ fn filled(text: &[u8]) -> [u8; 24]
     let mut title = [0; 24];
     title[0..text.len()].copy_from_slice(text);
     title
+}
+
+// A mark of a lawful start and text.
+fn titled(start: u32, text: &[u8]) -> ChapterMark
+    requires { ⌜ (leb start 86400 && isHeading (now text)) ≡ true ⌝ }
+    ensures answer { λ r. ⌜ Ok r ≡ markOf start (now (text .entry)) ⌝ }
+    ensures lawful { λ r. ⌜ Lawful marks r ⌝ }
+    ensures back { λ r. ⌜ textOf (r .title) ≡ now (text .entry) ⌝ }
+{
+    let title = filled(text);
+    ChapterMark { start, title }
 }
 
 impl ChapterMark {
@@ -95,14 +117,11 @@ impl ChapterMark {
         ensures lawful { λ r. ⌜ made r (λ m. Lawful marks m) ⌝ }
         ensures back { λ r. ⌜ made r (λ m. textOf (m .title) ≡ now (text .entry)) ⌝ }
     {
-        let lawful = (start <= LAST_SECOND) & is_heading(text);
-        if !lawful {
-            return Err(Refusal::NoContent { at: 0 });
+        if (start <= LAST_SECOND) & is_heading(text) {
+            Ok(titled(start, text))
+        } else {
+            Err(Refusal::NoContent { at: 0 })
         }
-        Ok(ChapterMark {
-            start,
-            title: filled(text),
-        })
     }
 
     // The second at which the chapter begins.
@@ -148,7 +167,7 @@ pub impl Content<{ ChapterMark::LEN }> for ChapterMark as MarkContent {
     }
 
     fn same(a: &ChapterMark, b: &ChapterMark) -> bool {
-        (a.start == b.start) & (a.title == b.title)
+        (a.start == b.start) & same_title(&a.title, &b.title)
     }
 
     fn lawful(rec: &ChapterMark) -> bool {

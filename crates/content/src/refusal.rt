@@ -115,7 +115,7 @@ impl Refusal {
             Refusal::Trailing { .. } => "bytes are left over after the last field",
             Refusal::UnknownKind => "the first byte is no kind of message",
             Refusal::BadLayout { .. } => "a seat, a mask or a block's numbers break the layout",
-            Refusal::NoContent { .. } => "the bytes are no content of this kind",
+            Refusal::NoContent { .. } => "this is no content of the kind",
             Refusal::WrongParent { .. } => "the certificate is not the named parent's",
             Refusal::BadSeal { .. } => "the seal check says no",
             Refusal::LastView => "the last view cannot be blamed",
