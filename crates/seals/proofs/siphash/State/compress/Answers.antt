@@ -3,4 +3,4 @@ use Rattle.seals.proofs.siphash.State.compress.Needs as need
 
 pub returns : need.returns
 unfolding compress
-returns c = cc
+returns c = simp (c .rounds-state .ensures)

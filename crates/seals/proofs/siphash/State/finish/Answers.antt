@@ -3,4 +3,4 @@ use Rattle.seals.proofs.siphash.State.finish.Needs as need
 
 pub returns : need.returns
 unfolding finish
-returns c = cc
+returns c = simp (c .rounds-end .ensures)
