@@ -1,1 +1,5 @@
+mod Edits
+pub mod Contents
 pub mod Numbers
+mod Marks
+mod Titles

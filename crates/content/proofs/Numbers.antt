@@ -1,47 +1,34 @@
--- Numbers and their bytes are each other's: laws of `number` and `spell`, and what the standard library's
--- `from_le_bytes` and `to_le_bytes` are by them.
+-- The laws of numbers in bytes, and what the standard library's `from_le_bytes` and `to_le_bytes` are by them.
 use Prim.Native.Nat.{ℕ, zero, suc, _+_, _*_, _/_, _%_, _^_, _<_}
 use mathlib.Core.Path.{_≡_, refl, ap}
-use mathlib.Core.List.{List, [], _∷_}
+use mathlib.Core.Bool.{Bool, true, false, _&&_}
+use mathlib.Core.List.{List, [], _∷_, _++_}
 use native.Mathlib.Nat.{div-div-eq-div-mul, pow-suc}
 use native.Mathlib.Omega.{arith}
+use lib.Dec.{eqb}
 use lib.ListN.{length, getD}
-use Rattle.content.specs.Kinds.{Bytes}
+use Rattle.std.proofs.shelf.Tests.{eq-eqb}
+use Rattle.std.proofs.shelf.Ways.{tells}
+use Rattle.std.specs.shelf.Text.{sameBytes}
 use Rattle.content.specs.Numbers.{number, spell}
+pub use Rattle.content.specs.Numbers.{spell-number, number-spell, length-spell, bytes-spell, number-below}
 
-pub length-spell : (k n : ℕ) → length (spell k n) ≡ k
-length-spell zero n = refl
-length-spell (suc k) n = ap suc (length-spell k (n / 256))
-
-pub bytes-spell : (k n : ℕ) → Bytes (spell k n)
-bytes-spell zero n i = omega arith
-bytes-spell (suc k) n zero = omega arith
-bytes-spell (suc k) n (suc i) = bytes-spell k (n / 256) i
-
-pub spell-number : (xs : List ℕ) → Bytes xs → spell (length xs) (number xs) ≡ xs
-spell-number [] h = refl
-spell-number (b ∷ bs) h =
-    let low : b < 256 = h 0 in
-    let rest : (b + 256 * number bs) / 256 ≡ number bs = omega arith in
-    let head : (b + 256 * number bs) % 256 ≡ b = omega arith in
-    let tail : spell (length bs) (number bs) ≡ bs = spell-number bs (λ i. h (suc i)) in
-    rw (rest, head, tail)
-
-pub number-spell : (k n : ℕ) → n < 256 ^ k → number (spell k n) ≡ n
-number-spell zero n h = omega arith
-number-spell (suc k) n h =
+-- numbers of so many bytes are compared by their bytes
+pub same-spell : (k m n : ℕ) (xs ys : List ℕ) → m < 256 ^ k → n < 256 ^ k → sameBytes (spell k m ++ xs) (spell k n ++ ys) ≡ (eqb m n && sameBytes xs ys)
+same-spell zero m n xs ys h l = let e : eqb m n ≡ true = eq-eqb m n (omega arith) in rw e
+same-spell (suc k) m n xs ys h l =
     let p : 256 ^ suc k ≡ 256 ^ k * 256 = pow-suc 256 k in
-    let l : n / 256 < 256 ^ k = omega arith in
-    let t : number (spell k (n / 256)) ≡ n / 256 = number-spell k (n / 256) l in
-    omega arith
+    let a : m / 256 < 256 ^ k = omega arith in
+    let b : n / 256 < 256 ^ k = omega arith in
+    let rest = same-spell k (m / 256) (n / 256) xs ys a b in
+    rw rest (regroup (eqb (m % 256) (n % 256)) (eqb (m / 256) (n / 256)) (eqb m n) (sameBytes xs ys) (digits m n))
+  where
+    digits : (m n : ℕ) → (eqb (m % 256) (n % 256) && eqb (m / 256) (n / 256)) ≡ eqb m n
+    digits m n = grind (arith, tells)
 
-pub number-below : (xs : List ℕ) → Bytes xs → number xs < 256 ^ length xs
-number-below [] h = omega arith
-number-below (b ∷ bs) h =
-    let low : b < 256 = h 0 in
-    let p : 256 ^ suc (length bs) ≡ 256 ^ length bs * 256 = pow-suc 256 (length bs) in
-    let r : number bs < 256 ^ length bs = number-below bs (λ i. h (suc i)) in
-    omega arith
+    regroup : (a b c d : Bool) → (a && b) ≡ c → (a && (b && d)) ≡ (c && d)
+    regroup true b c d e = ap (λ (x : Bool). x && d) e
+    regroup false b c d e = ap (λ (x : Bool). x && d) e
 
 -- what `to_le_bytes` answers is the number's spelling
 pub to-le-16 : (n : ℕ) → _≡_ {A = List ℕ} (n % 256 ∷ n / 256 % 256 ∷ []) (spell 2 n)

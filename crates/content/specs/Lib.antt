@@ -1,3 +1,5 @@
+pub mod Edits
 pub mod Kinds
+pub mod Marks
 pub mod Numbers
 pub mod Refusals

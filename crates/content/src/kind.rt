@@ -1,8 +1,9 @@
 // What every kind of content offers: a fixed length of bytes, a record to keep, and the way between the two.
 ghost use mathlib.Core.Path.{_≡_};
 ghost use Rattle.std.specs.Orderings.{Decides};
+ghost use Rattle.std.specs.declared.result.Result.the-variants.{Ok};
 ghost use Rattle.std.specs.shelf.Text.{sameBytes};
-ghost use Rattle.content.specs.Kinds.{Kind, Lawful, readContent};
+ghost use Rattle.content.specs.Kinds.{Kind, Lawful, next, readContent, writeAnswer, writeMemory};
 use crate::refusal::Refusal;
 
 // A kind of content of L bytes, 1 to 64.
@@ -44,4 +45,34 @@ pub fn read_content<const L: usize, C: Content<L>>(src: &[u8]) -> Result<C::Reco
         Some(rec) => Ok(rec),
         None => Err(Refusal::NoContent { at: 0 }),
     }
+}
+
+// Writes the bytes of a record to the front of `out`, and says how many.
+pub fn write_content<const L: usize, C: Content<L>>(
+    rec: &C::Record,
+    out: &mut [u8],
+) -> Result<usize, Refusal>
+    ensures answer { λ r. ⌜ r ≡ writeAnswer L (Ok (C·Content .kind .shown (now (rec .entry)))) (now (out .entry)) ⌝ }
+    ensures memory { λ _. ⌜ now (out .exit) ≡ writeMemory L (Ok (C·Content .kind .shown (now (rec .entry)))) (now (out .entry)) ⌝ }
+{
+    if out.len() < L {
+        return Err(Refusal::SmallOutbox);
+    }
+    out[0..L].copy_from_slice(&C::bytes(rec));
+    Ok(L)
+}
+
+// Reads content and writes it to the front of `out`: the very bytes that were read.
+pub fn copy_content<const L: usize, C: Content<L>>(
+    src: &[u8],
+    out: &mut [u8],
+) -> Result<usize, Refusal>
+    ensures answer { λ r. ⌜ r ≡ writeAnswer L (next (readContent (C·Content .kind) (now (src .entry))) (λ _. Ok (now (src .entry)))) (now (out .entry)) ⌝ }
+    ensures memory { λ _. ⌜ now (out .exit) ≡ writeMemory L (next (readContent (C·Content .kind) (now (src .entry))) (λ _. Ok (now (src .entry)))) (now (out .entry)) ⌝ }
+{
+    if out.len() < L {
+        return Err(Refusal::SmallOutbox);
+    }
+    let rec = read_content::<L, C>(src)?;
+    write_content::<L, C>(&rec, out)
 }
