@@ -1,25 +1,25 @@
 -- Looking up after more was stored; steps from parent to parent; and that a grown shelf has every ancestor of its blocks.
-use Prim.Native.Nat.{ℕ, zero, suc, _+_, _-_, _<_, _≤_}
+use Prim.Native.Nat.{ℕ, zero, suc, _+_, _<_, _≤_}
 use mathlib.Core.Path.{_≡_, refl, sym, ap, subst, _∙_}
 use mathlib.Core.Logic.{_⊎_, inl, inr}
-use mathlib.Core.Bool.{Bool, true, false, cond}
+use mathlib.Core.Bool.{true}
 use mathlib.Core.List.{List, [], _∷_, _++_}
 use native.Mathlib.Nat.{zero-add}
 use native.Mathlib.Omega.{arith}
-use lib.Dec.{eqb, ltb}
+use lib.Dec.{eqb}
 use Rattle.std.proofs.shelf.Lists.{append-assoc, append-nil}
-use Rattle.std.proofs.shelf.Tests.{cases-bool, cond-true, cond-false, and-parts, eqb-true, eqb-false, ltb-false, eq-eqb, ne-eqb, le-ltb}
+use Rattle.std.proofs.shelf.Tests.{cases-bool, cond-true, cond-false, and-parts, eqb-true, eq-eqb}
 use Rattle.std.specs.declared.option.Option.{Option}
 use Rattle.std.specs.declared.option.Option.the-variants.{Some, None}
 use Rattle.std.specs.declared.result.Result.{Result}
 use Rattle.std.specs.declared.result.Result.the-variants.{Ok, Err}
 use Rattle.content.specs.declared.refusal.Refusal.{Refusal}
 use Rattle.content.specs.declared.refusal.Refusal.the-variants.{BrokenShelf}
-use Rattle.wire.specs.Ranks.{Place, sameRank}
+use Rattle.wire.specs.Ranks.{sameRank}
 use Rattle.wire.specs.declared.block.Block.{Block}
 use Rattle.wire.specs.declared.block.Rank.{Rank}
-use Rattle.shelf.specs.Blocks.{find, oneLower, climb, readBelow, belowBlock, answered}
-use Rattle.shelf.specs.Ancestry.{On, Parent, MayFollow, GrownOn, Grown, Steps, Ancestor, OneAncestor, ReadsAncestor, ReadsStay}
+use Rattle.shelf.specs.Blocks.{find, oneLower, climb}
+use Rattle.shelf.specs.Ancestry.{On, Parent, MayFollow, GrownOn, Grown, Steps}
 use Rattle.shelf.proofs.Scans.{find-here, find-past, find-none, climb-up, climb-stops, climb-none}
 
 -- a test of ranks that passes says that they are one
@@ -47,9 +47,10 @@ module _ {R : Type 0} where
   pub find-rank : (r : Rank) (bs : List (Block R)) (b : Block R) → find r bs ≡ Some b → b .rank ≡ r
   find-rank r [] b e = absurd (none-some b (sym (find-none r) ∙ e))
   find-rank r (x ∷ bs) b e =
-      elim (cases-bool (sameRank (x .rank) r))
-      [ inl t ↦ ap (λ (y : Block R). y .rank) (sym (some-same x b (sym (find-here r x bs t) ∙ e))) ∙ same-ranks (x .rank) r t
-      | inr f ↦ find-rank r bs b (sym (find-past r x bs f) ∙ e) ]
+      elim (cases-bool (sameRank (x .rank) r)) [
+        | inl t ↦ ap (λ (y : Block R). y .rank) (sym (some-same x b (sym (find-here r x bs t) ∙ e))) ∙ same-ranks (x .rank) r t
+        | inr f ↦ find-rank r bs b (sym (find-past r x bs f) ∙ e)
+      ]
 
   -- and is on the shelf
   pub on-from-find : (r : Rank) (bs : List (Block R)) (b : Block R) → find r bs ≡ Some b → On bs b
@@ -59,17 +60,19 @@ module _ {R : Type 0} where
   pub find-append-some : (r : Rank) (bs cs : List (Block R)) (b : Block R) → find r bs ≡ Some b → find r (bs ++ cs) ≡ Some b
   find-append-some r [] cs b e = absurd (none-some b (sym (find-none r) ∙ e))
   find-append-some r (x ∷ bs) cs b e =
-      elim (cases-bool (sameRank (x .rank) r))
-      [ inl t ↦ find-here r x (bs ++ cs) t ∙ (sym (find-here r x bs t) ∙ e)
-      | inr f ↦ find-past r x (bs ++ cs) f ∙ find-append-some r bs cs b (sym (find-past r x bs f) ∙ e) ]
+      elim (cases-bool (sameRank (x .rank) r)) [
+        | inl t ↦ find-here r x (bs ++ cs) t ∙ (sym (find-here r x bs t) ∙ e)
+        | inr f ↦ find-past r x (bs ++ cs) f ∙ find-append-some r bs cs b (sym (find-past r x bs f) ∙ e)
+      ]
 
   -- a rank that is not there is looked up in what is stored next
   pub find-append-none : (r : Rank) (bs cs : List (Block R)) → find r bs ≡ None → find r (bs ++ cs) ≡ find r cs
   find-append-none r [] cs e = refl
   find-append-none r (x ∷ bs) cs e =
-      elim (cases-bool (sameRank (x .rank) r))
-      [ inl t ↦ absurd (none-some x (sym e ∙ find-here r x bs t))
-      | inr f ↦ find-past r x (bs ++ cs) f ∙ find-append-none r bs cs (sym (find-past r x bs f) ∙ e) ]
+      elim (cases-bool (sameRank (x .rank) r)) [
+        | inl t ↦ absurd (none-some x (sym e ∙ find-here r x bs t))
+        | inr f ↦ find-past r x (bs ++ cs) f ∙ find-append-none r bs cs (sym (find-past r x bs f) ∙ e)
+      ]
 
   -- a parent stays the parent
   pub parent-append : (bs cs : List (Block R)) (b p : Block R) → Parent bs b p → Parent (bs ++ cs) b p
@@ -86,11 +89,12 @@ module _ {R : Type 0} where
   lower-some : (h : ℕ) (o : Option (Block R)) (p : Block R) → Ok p ≡ oneLower h o → (o ≡ Some p) × (p .height + 1 ≡ h)
   lower-some h None p e = absurd (ok-err p BrokenShelf e)
   lower-some h (Some q) p e =
-      elim (cases-bool (eqb (q .height + 1) h))
-      [ inl t ↦
-          let k : q ≡ p = ok-same q p (sym (e ∙ cond-true _ _ _ t)) in
-          (ap Some k, ap (λ (y : Block R). y .height + 1) (sym k) ∙ eqb-true (q .height + 1) h t)
-      | inr f ↦ absurd (ok-err p BrokenShelf (e ∙ cond-false _ _ _ f)) ]
+      elim (cases-bool (eqb (q .height + 1) h)) [
+        | inl t ↦
+            let k : q ≡ p = ok-same q p (sym (e ∙ cond-true _ _ _ t)) in
+            (ap Some k, ap (λ (y : Block R). y .height + 1) (sym k) ∙ eqb-true (q .height + 1) h t)
+        | inr f ↦ absurd (ok-err p BrokenShelf (e ∙ cond-false _ _ _ f))
+      ]
 
   pub parent-from-lower : (bs : List (Block R)) (b p : Block R) → Ok p ≡ oneLower (b .height) (find (b .parent) bs) → Parent bs b p
   parent-from-lower bs b p e = lower-some (b .height) (find (b .parent) bs) p e
@@ -117,9 +121,10 @@ module _ {R : Type 0} where
 
   only-one : (r : Rank) (b x : Block R) → find r (b ∷ []) ≡ Some x → x ≡ b
   only-one r b x e =
-      elim (cases-bool (sameRank (b .rank) r))
-      [ inl t ↦ some-same x b (sym e ∙ find-here r b [] t)
-      | inr f ↦ absurd (none-some x (sym (find-past r b [] f ∙ find-none r) ∙ e)) ]
+      elim (cases-bool (sameRank (b .rank) r)) [
+        | inl t ↦ some-same x b (sym e ∙ find-here r b [] t)
+        | inr f ↦ absurd (none-some x (sym (find-past r b [] f ∙ find-none r) ∙ e))
+      ]
 
   on-either : (bs : List (Block R)) (b x : Block R) (o : Option (Block R)) → find (x .rank) bs ≡ o → On (bs ++ b ∷ []) x → On bs x ⊎ (x ≡ b)
   on-either bs b x None e on = inr (only-one (x .rank) b x (sym (find-append-none (x .rank) bs (b ∷ []) e) ∙ on))
@@ -142,19 +147,21 @@ module _ {R : Type 0} where
 
   rooted-next : (bs : List (Block R)) (b : Block R) → Rooted bs → MayFollow bs b → RootedAt bs b
   rooted-next bs b all m =
-      elim (m .1)
-      [ inl one ↦ (omega arith, inl one)
-      | inr up ↦
-          let p : Block R = up .0 in
-          let h : 1 ≤ p .height = all p (on-from-find (b .parent) bs p (up .1 .0)) .0 in
-          let e : p .height + 1 ≡ b .height = up .1 .1 in
-          (omega arith, inr up) ]
+      elim (m .1) [
+        | inl one ↦ (omega arith, inl one)
+        | inr up ↦
+            let p : Block R = up .0 in
+            let h : 1 ≤ p .height = all p (on-from-find (b .parent) bs p (up .1 .0)) .0 in
+            let e : p .height + 1 ≡ b .height = up .1 .1 in
+            (omega arith, inr up)
+      ]
 
   rooted-push : (bs : List (Block R)) (b : Block R) → Rooted bs → MayFollow bs b → Rooted (bs ++ b ∷ [])
   rooted-push bs b all m x on =
-      elim (on-push bs b x on)
-      [ inl old ↦ rooted-append bs (b ∷ []) x (all x old)
-      | inr new ↦ subst (RootedAt (bs ++ b ∷ [])) (sym new) (rooted-append bs (b ∷ []) b (rooted-next bs b all m)) ]
+      elim (on-push bs b x on) [
+        | inl old ↦ rooted-append bs (b ∷ []) x (all x old)
+        | inr new ↦ subst (RootedAt (bs ++ b ∷ [])) (sym new) (rooted-append bs (b ∷ []) b (rooted-next bs b all m))
+      ]
 
   rooted-from : (before bs : List (Block R)) → Rooted before → GrownOn before bs → Rooted (before ++ bs)
   rooted-from before [] all h = subst Rooted (sym (append-nil before)) all

@@ -1,11 +1,10 @@
 -- What the counter of a shelf says of its list.
-use Prim.Native.Nat.{ℕ, _+_, _-_, _<_, _≤_, min}
-use mathlib.Core.Path.{_≡_, refl, sym, ap, _∙_}
-use mathlib.Core.Bool.{Bool, true, false, cond, not}
-use mathlib.Core.List.{List, [], _∷_, _++_}
+use Prim.Native.Nat.{ℕ, _<_, _≤_, min}
+use mathlib.Core.Path.{_≡_, _∙_}
+use mathlib.Core.Bool.{true, false}
+use mathlib.Core.List.{[], _∷_, _++_}
 use native.Mathlib.Omega.{arith}
-use lib.Dec.{eqb, leb, ltb}
-use lib.ListN.{length, take, set}
+use lib.Dec.{ltb}
 use denote.Ref.{now}
 use Rattle.std.proofs.shelf.Lists.{length-take, length-set, take-more-set}
 use Rattle.std.proofs.shelf.Tests.{lt-ltb, le-ltb}

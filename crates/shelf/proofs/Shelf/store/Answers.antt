@@ -19,7 +19,8 @@ returns-then-self-size g c =
       blocks = sym (cond-false _ _ _ full);
       size = refl;
       grows = λ grown may. grown;
-      stays = λ place h b e. e }
+      stays = λ place h b e. e;
+    }
 
 pub returns : need.returns
 returns g c =
@@ -32,4 +33,5 @@ returns g c =
       blocks = more ∙ sym (cond-true _ _ _ free);
       size = ap size (c .put .ensures) ∙ size-same (c .args .self .now) (c .args .block);
       grows = λ grown may. subst Grown (sym more) (grown-push (held (c .args .self .now)) (c .args .block) grown may);
-      stays = subst (ReadsStay (held (c .args .self .now))) (sym more) (reads-stay (held (c .args .self .now)) (c .args .block ∷ [])) }
+      stays = subst (ReadsStay (held (c .args .self .now))) (sym more) (reads-stay (held (c .args .self .now)) (c .args .block ∷ []));
+    }
