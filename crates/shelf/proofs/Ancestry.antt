@@ -1,25 +1,25 @@
 -- Looking up after more was stored; steps from parent to parent; and that a grown shelf has every ancestor of its blocks.
-use Prim.Native.Nat.{ℕ, zero, suc, _+_, _-_, _<_, _≤_}
+use Prim.Native.Nat.{ℕ, zero, suc, _+_, _<_, _≤_}
 use mathlib.Core.Path.{_≡_, refl, sym, ap, subst, _∙_}
 use mathlib.Core.Logic.{_⊎_, inl, inr}
-use mathlib.Core.Bool.{Bool, true, false, cond}
+use mathlib.Core.Bool.{true}
 use mathlib.Core.List.{List, [], _∷_, _++_}
 use native.Mathlib.Nat.{zero-add}
 use native.Mathlib.Omega.{arith}
-use lib.Dec.{eqb, ltb}
+use lib.Dec.{eqb}
 use Rattle.std.proofs.shelf.Lists.{append-assoc, append-nil}
-use Rattle.std.proofs.shelf.Tests.{cases-bool, cond-true, cond-false, and-parts, eqb-true, eqb-false, ltb-false, eq-eqb, ne-eqb, le-ltb}
+use Rattle.std.proofs.shelf.Tests.{cases-bool, cond-true, cond-false, and-parts, eqb-true, eq-eqb}
 use Rattle.std.specs.declared.option.Option.{Option}
 use Rattle.std.specs.declared.option.Option.the-variants.{Some, None}
 use Rattle.std.specs.declared.result.Result.{Result}
 use Rattle.std.specs.declared.result.Result.the-variants.{Ok, Err}
 use Rattle.content.specs.declared.refusal.Refusal.{Refusal}
 use Rattle.content.specs.declared.refusal.Refusal.the-variants.{BrokenShelf}
-use Rattle.wire.specs.Ranks.{Place, sameRank}
+use Rattle.wire.specs.Ranks.{sameRank}
 use Rattle.wire.specs.declared.block.Block.{Block}
 use Rattle.wire.specs.declared.block.Rank.{Rank}
-use Rattle.shelf.specs.Blocks.{find, oneLower, climb, readBelow, belowBlock, answered}
-use Rattle.shelf.specs.Ancestry.{On, Parent, MayFollow, GrownOn, Grown, Steps, Ancestor, OneAncestor, ReadsAncestor, ReadsStay}
+use Rattle.shelf.specs.Blocks.{find, oneLower, climb}
+use Rattle.shelf.specs.Ancestry.{On, Parent, MayFollow, GrownOn, Grown, Steps}
 use Rattle.shelf.proofs.Scans.{find-here, find-past, find-none, climb-up, climb-stops, climb-none}
 
 -- a test of ranks that passes says that they are one

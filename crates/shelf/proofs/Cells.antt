@@ -1,15 +1,13 @@
 -- What the counter of a shelf says of its list.
-use Prim.Native.Nat.{ℕ, _+_, _-_, _<_, _≤_, min}
-use mathlib.Core.Path.{_≡_, refl, sym, ap, _∙_}
-use mathlib.Core.Logic.{inl, inr}
-use mathlib.Core.Bool.{Bool, true, false, cond, not}
-use mathlib.Core.List.{List, [], _∷_, _++_}
+use Prim.Native.Nat.{ℕ, _<_, _≤_, min}
+use mathlib.Core.Path.{_≡_, _∙_}
+use mathlib.Core.Bool.{true, false}
+use mathlib.Core.List.{[], _∷_, _++_}
 use native.Mathlib.Omega.{arith}
-use lib.Dec.{eqb, leb, ltb}
-use lib.ListN.{length, take, set}
+use lib.Dec.{ltb}
 use denote.Ref.{now}
-use Rattle.std.proofs.shelf.Lists.{length-take, length-set, take-all, take-more-set}
-use Rattle.std.proofs.shelf.Tests.{cases-lt, lt-ltb, le-ltb}
+use Rattle.std.proofs.shelf.Lists.{length-take, length-set, take-more-set}
+use Rattle.std.proofs.shelf.Tests.{lt-ltb, le-ltb}
 use Rattle.std.proofs.shelf.Ways.{tells}
 use Rattle.wire.specs.declared.block.Block.{Block}
 use Rattle.shelf.specs.declared.Shelf.{Shelf}
@@ -29,13 +27,6 @@ module _ {R : Type 0} where
 
   pub free-by-len : (s : Shelf R) → s .len < size s → hasRoom s ≡ true
   free-by-len s h = room-by-len s ∙ lt-ltb (s .len) (size s) h
-
-  -- past the number of cells the counter takes them all
-  pub take-capped : (n k : ℕ) (xs : List (Block R)) → k ≡ min n (length xs) → take (k - 0) xs ≡ take n xs
-  take-capped n k xs e =
-      elim (cases-lt n (length xs))
-      [ inl l ↦ let f : k - 0 ≡ n = omega arith in ap (λ m. take m xs) f
-      | inr m ↦ let l : length xs ≤ k - 0 = omega arith in take-all (k - 0) xs l ∙ sym (take-all n xs m) ]
 
   pub held-more : (s : Shelf R) (b : Block R) → s .len < size s → held (withBlock s b) ≡ held s ++ b ∷ []
   held-more s b h = take-more-set (now (s .cells)) (s .len) b h

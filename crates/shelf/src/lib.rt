@@ -1,4 +1,5 @@
 // The shelf: the certified blocks of one seat, over cells that the caller lends.
+ghost use Prim.Native.Nat.{_<_};
 ghost use mathlib.Core.Path.{_≡_};
 ghost use mathlib.Core.Bool.{cond, not};
 ghost use mathlib.Core.List.{List, [], _∷_, _++_};
@@ -46,8 +47,11 @@ impl<'a, R: Copy> Shelf<'a, R> {
     pub fn blocks(&self) -> &[Block<R>]
         ensures { λ r. ⌜ now r ≡ held (now (self .entry)) ⌝ }
     {
-        let end = self.len.min(self.size());
-        &self.cells[0..end]
+        if self.len < self.size() {
+            &self.cells[0..self.len]
+        } else {
+            self.cells
+        }
     }
 
     // How many blocks the shelf holds.
@@ -90,9 +94,17 @@ impl<'a, R: Copy> Shelf<'a, R> {
         if self.len >= self.size() {
             return Err(Refusal::Full);
         }
+        self.put(block);
+        Ok(())
+    }
+
+    // Puts a block into the next cell, which is free.
+    fn put(&mut self, block: Block<R>)
+        requires { ⌜ now self .len < size (now self) ⌝ }
+        ensures { λ _. ⌜ now (self .exit) ≡ withBlock (now (self .entry)) block ⌝ }
+    {
         self.cells[self.len] = block;
         self.len += 1;
-        Ok(())
     }
 
     // The block that stands for a rank: the first one stored with it.

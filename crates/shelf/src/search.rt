@@ -69,14 +69,20 @@ fn ancestor_of<'b, R: Copy>(
 }
 
 // The block of a height at or below a place.
-pub fn block_below<R: Copy>(blocks: &[Block<R>], place: Option<Rank>, height: u32) -> Result<Option<&Block<R>>, Refusal>
+pub fn block_below<R: Copy>(
+    blocks: &[Block<R>],
+    place: Option<Rank>,
+    height: u32,
+) -> Result<Option<&Block<R>>, Refusal>
     ensures { λ r. ⌜ behindSome r ≡ readBelow (now (blocks .entry)) place height ⌝ }
 {
     let Some(rank) = place else {
         return Ok(None);
     };
     match first_of_rank(blocks, rank) {
-        Some(block) if height > 0 && height <= block.height => Ok(Some(ancestor_of(blocks, block, block.height - height)?)),
+        Some(block) if height > 0 && height <= block.height => Ok(Some(
+            ancestor_of(blocks, block, block.height - height)?,
+        )),
         _ => Ok(None),
     }
 }

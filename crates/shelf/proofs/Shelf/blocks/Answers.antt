@@ -1,9 +1,9 @@
-use Prim.Native.Nat.{min}
-use mathlib.Core.Path.{ap, _∙_}
-use Rattle.shelf.proofs.Cells.{take-capped}
+use mathlib.Core.Path.{sym}
+use native.Mathlib.Omega.{arith}
+use Rattle.std.proofs.shelf.Lists.{take-all}
 use Rattle.shelf.proofs.Shelf.blocks.Needs as need
 
-pub returns : need.returns
-returns g c =
-    take-capped (c .args .self .now .len) (c .min-end .result) (c .args .self .now .cells .now)
-      (c .min-end .ensures ∙ ap (min (c .args .self .now .len)) (c .size .ensures))
+-- past the number of cells the counter takes them all
+pub returns-else-self-size : need.returns-else-self-size
+returns-else-self-size g c =
+    sym (take-all (c .args .self .now .len) (c .args .self .now .cells .now) (omega (arith, c .size .ensures)))

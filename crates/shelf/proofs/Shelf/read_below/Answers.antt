@@ -10,4 +10,5 @@ returns g c =
     record {
       answer = e;
       ancestor = subst (ReadsAncestor (held (c .args .self .now)) (c .args .place) (c .args .height)) (sym e)
-        (reads-ancestor (held (c .args .self .now)) (c .args .place) (c .args .height)) }
+          (reads-ancestor (held (c .args .self .now)) (c .args .place) (c .args .height));
+    }

@@ -1,7 +1,7 @@
-use mathlib.Core.Path.{refl, sym, subst, _∙_}
 use Prim.Native.Nat.{_<_}
-use native.Mathlib.Omega.{arith}
+use mathlib.Core.Path.{refl, sym, ap, subst, _∙_}
 use mathlib.Core.List.{[], _∷_}
+use native.Mathlib.Omega.{arith}
 use Rattle.std.proofs.shelf.Tests.{cond-true, cond-false}
 use Rattle.shelf.specs.Ancestry.{Grown, ReadsStay}
 use Rattle.shelf.specs.Blocks.{held, size}
@@ -19,17 +19,19 @@ returns-then-self-size g c =
       blocks = sym (cond-false _ _ _ full);
       size = refl;
       grows = λ grown may. grown;
-      stays = λ place h b e. e }
+      stays = λ place h b e. e;
+    }
 
 pub returns : need.returns
 returns g c =
     let below : c .args .self .now .len < size (c .args .self .now) = omega (arith, c .size .ensures, c .if-self-size .left) in
     let free = free-by-len (c .args .self .now) below in
-    let more = held-more (c .args .self .now) (c .args .block) below in
+    let more = ap held (c .put .ensures) ∙ held-more (c .args .self .now) (c .args .block) below in
     record {
       answer = sym (cond-true _ _ _ free);
-      shelf = sym (cond-true _ _ _ free);
+      shelf = c .put .ensures ∙ sym (cond-true _ _ _ free);
       blocks = more ∙ sym (cond-true _ _ _ free);
-      size = size-same (c .args .self .now) (c .args .block);
+      size = ap size (c .put .ensures) ∙ size-same (c .args .self .now) (c .args .block);
       grows = λ grown may. subst Grown (sym more) (grown-push (held (c .args .self .now)) (c .args .block) grown may);
-      stays = subst (ReadsStay (held (c .args .self .now))) (sym more) (reads-stay (held (c .args .self .now)) (c .args .block ∷ [])) }
+      stays = subst (ReadsStay (held (c .args .self .now))) (sym more) (reads-stay (held (c .args .self .now)) (c .args .block ∷ []));
+    }
