@@ -1,2 +1,3 @@
 pub mod Ticks
 pub mod Certificates
+pub mod Doing

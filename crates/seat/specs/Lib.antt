@@ -1,5 +1,6 @@
 pub mod Answers
 pub mod Calls
+pub mod Does
 pub mod HandIn
 pub mod Offer
 pub mod Parts
