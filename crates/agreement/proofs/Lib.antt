@@ -1,1 +1,4 @@
+pub mod Basics
 pub mod Facts
+pub mod Quorum
+pub mod Statements
