@@ -1,4 +1,5 @@
 pub mod Basics
+pub mod Cases
 pub mod Facts
 pub mod Quorum
 pub mod Statements
