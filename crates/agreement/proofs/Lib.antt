@@ -3,3 +3,4 @@ pub mod Cases
 pub mod Facts
 pub mod Quorum
 pub mod Statements
+pub mod Verdicts
