@@ -6,7 +6,7 @@ use mathlib.Core.List.{List, [], _∷_, _++_}
 use mathlib.Core.Logic.{_⊎_, inl, inr}
 use native.Mathlib.Omega.{arith}
 use lib.Dec.{eqb, leb, ltb}
-use Rattle.std.proofs.shelf.Tests.{and-parts, and-from, or-right, cond-both}
+use Rattle.std.proofs.shelf.Tests.{and-parts, and-from, eqb-true, or-right, cond-both}
 use Rattle.std.specs.Options.{isSome}
 use Rattle.std.specs.declared.option.Option.{Option}
 use Rattle.std.specs.declared.option.Option.the-variants.{Some, None}
@@ -99,7 +99,7 @@ module _ {L S : ℕ} {R : Type 0} (k : Kind L R) (p : Terms) (cells : ℕ) (Got 
     pub shelves : (s : State S R) (c : Certificate R (List ℕ)) → Source s c → judgeIn k s before cells (c .block) ≡ Ok New →
         (o : Outcome S R) → Ends o → o .height ≡ heightOf s (c .block) → o .blocks ≡ before ++ (c .block ∷ []) →
         Q s before → Q (shelve c s) (before ++ (c .block ∷ []))
-    pub leaves-view : (s : State S R) (bs : List (Block R)) (v : ℕ) → eqb v lastView ≡ false → (ltb (s .view) v || (isOn (s .phase) && eqb (s .view) v)) ≡ true →
+    pub leaves-view : (s : State S R) (bs : List (Block R)) (v : ℕ) → ((mask : ℕ) × (seals : List ℕ) × Got (Notice v mask seals)) ⊎ (s .view ≡ v) → eqb v lastView ≡ false → (ltb (s .view) v || (isOn (s .phase) && eqb (s .view) v)) ≡ true →
         Q s bs → Q (leave v s) bs
     pub clock-ticks : (s : State S R) (bs : List (Block R)) → Q s bs → Q (withNow (s .now + 1) s) bs
     pub enters : (s : State S R) (bs : List (Block R)) (since : ℕ) → s .phase ≡ Leaving since →
@@ -181,7 +181,7 @@ module _ {L S : ℕ} {R : Type 0} (k : Kind L R) (p : Terms) (cells : ℕ) (Got 
         blame-cases k p Held s before cells o i view seal e (λ _. q)
         (λ _ _ _ _. keep .keeps-blame s before (addSeal (s .blames) i seal) q)
         (λ low on at _.
-          keep .leaves-view (withBlames (addSeal (s .blames) i seal) s) before view low
+          keep .leaves-view (withBlames (addSeal (s .blames) i seal) s) before view (inr (eqb-true (s .view) view at)) low
           (or-right (ltb (s .view) view) _ (and-from (isOn (s .phase)) (eqb (s .view) view) on at)) (keep .keeps-blame s before (addSeal (s .blames) i seal) q))
         ends
     keep-hand s (Certified c) o got e ends q =
@@ -189,7 +189,7 @@ module _ {L S : ℕ} {R : Type 0} (k : Kind L R) (p : Terms) (cells : ℕ) (Got 
         (λ j end. keep .shelves s c (inl got) j (taken s before c relay New) end refl refl q)
         ends
     keep-hand s (Notice view mask seals) o got e ends q =
-        notice-cases k p Held s before cells o view e (λ _. q) (λ low t _. keep .leaves-view s before view low t q) ends
+        notice-cases k p Held s before cells o view e (λ _. q) (λ low t _. keep .leaves-view s before view (inl (mask, seals, got)) low t q) ends
 
     pub keep-tick : (s : State S R) (bs : List (Block R)) → Q s bs → Q (tickStep p s bs .state) (tickStep p s bs .blocks)
     keep-tick s bs q =

@@ -3,6 +3,7 @@ pub mod Basics
 pub mod Cases
 pub mod Facts
 pub mod Keeps
+pub mod Notes
 pub mod Quorum
 pub mod Statements
 pub mod Verdicts
