@@ -9,6 +9,8 @@ use Rattle.std.specs.declared.option.Option.the-variants.{Some, None}
 use Rattle.std.specs.declared.result.Result.{Result}
 use Rattle.std.specs.declared.result.Result.the-variants.{Ok, Err}
 use Rattle.content.specs.declared.refusal.Refusal.{Refusal}
+use Rattle.agreement.specs.History.{Event, History}
+use Rattle.agreement.proofs.Facts.{Was}
 
 module _ {X : Type 0} where
   pub some-same : {x y : X} → Some x ≡ Some y → x ≡ y
@@ -34,3 +36,9 @@ module _ {X : Type 0} where
 
 pub true-false : true ≡ false → ⊥
 true-false e = let z : _≡_ {A = ℕ} 0 1 = cc in omega arith
+
+pub was-now : (P : Event → History → Type 0) (e : Event) (p : History) → P e p → Was P (e ∷ p)
+was-now P e p q = ([], e, p, refl, q)
+
+pub was-later : (P : Event → History → Type 0) (e : Event) (p : History) → Was P p → Was P (e ∷ p)
+was-later P e p q = (e ∷ q .0, q .1, q .2, ap (λ h. e ∷ h) (q .3), q .4)

@@ -5,5 +5,6 @@ pub mod Facts
 pub mod Keeps
 pub mod Notes
 pub mod Quorum
+pub mod Sent
 pub mod Statements
 pub mod Verdicts

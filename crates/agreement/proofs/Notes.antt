@@ -86,17 +86,17 @@ module _ {L : ℕ} {R : Type 0} (S : ℕ) (k : Kind L R) (w : Setting) where
       let q : Question = record { seat = w .leader (b .rank .view); statement = proposalStatement k b; seal = seal } in
       now .honest (Proposal b seal parent) (got .0 .0) .0 sound (judged-first (w .accepts) q (parentAsked k S (w .n) (w .leader) parent) (got .0 .1) .0)
 
-  take-note : (e : Event) (p : History) (s : State S R) (b : Block R) (seal : List ℕ) (parent : Option (Certificate R (List ℕ))) → Moment S k w e p → Handed S k w e (Proposal b seal parent) →
-      slotOpen s b ≡ true → NoteAt (e ∷ p) (s .phase) (s .view) (s .turn) (blockOf (s .round .note)) → NoteAt (e ∷ p) (s .phase) (s .view) (s .turn) (Some b)
-  take-note e p s b seal parent now got slot q =
+  take-note : (e : Event) (p g : History) (up : (i : ℕ) (st : List ℕ) → Said S k w i st p → Said S k w i st g) (s : State S R) (b : Block R) (seal : List ℕ) (parent : Option (Certificate R (List ℕ))) → Moment S k w e p → Handed S k w e (Proposal b seal parent) →
+      slotOpen s b ≡ true → NoteAt g (s .phase) (s .view) (s .turn) (blockOf (s .round .note)) → NoteAt g (s .phase) (s .view) (s .turn) (Some b)
+  take-note e p g up s b seal parent now got slot q =
       let at : Placed (s .phase) (s .view) (s .turn) b = slot-placed (s .phase) s b (and-parts (not (s .spoiled)) _ slot .1) in
       record {
         low = q .low;
         leaving-low = q .leaving-low;
         lawful = λ c t. subst (λ (x : Block R). LawfulBlock k x) (some-same t) (got .1 .0);
         placed = λ c t. subst (λ (x : Block R). Placed (s .phase) (s .view) (s .turn) x) (some-same t) at;
-        proposed = λ c t. subst (λ (x : Block R). Sound w (w .leader (x .rank .view)) → Said S k w (w .leader (x .rank .view)) (proposalStatement k x) (e ∷ p)) (some-same t)
-          (λ sound. inr (proposal-said e p b seal parent now got sound));
+        proposed = λ c t. subst (λ (x : Block R). Sound w (w .leader (x .rank .view)) → Said S k w (w .leader (x .rank .view)) (proposalStatement k x) g) (some-same t)
+          (λ sound. up (w .leader (b .rank .view)) (proposalStatement k b) (proposal-said e p b seal parent now got sound));
       }
 
   enter-note : (h : History) (since view turn before : ℕ) (nb : Option (Block R)) → (view ≡ before + 1) → NoteAt h (Leaving since) before 0 nb → turn ≡ 0 → NoteAt h On view turn nb
@@ -117,48 +117,49 @@ module _ {L : ℕ} {R : Type 0} (S : ℕ) (k : Kind L R) (w : Setting) where
       record { low = r .low; leaving-low = r .leaving-low; lawful = r .lawful; placed = r .placed; proposed = r .proposed }
 
 module _ {L : ℕ} {R : Type 0} (S : ℕ) (k : Kind L R) (w : Setting) (law : Lawful w) where
-  note-kept : (e : Event) (p : History) → Moment S k w e p → Run S k w p → Kept S k w e p (NoteInv S k w (e .who) (e ∷ p))
-  note-kept e p now run = record {
+  -- g: the moment of which the facts are said, before the call or after it
+  pub note-kept : (e : Event) (p g : History) (up : (i : ℕ) (st : List ℕ) → Said S k w i st p → Said S k w i st g) → Moment S k w e p → Kept S k w e p (NoteInv S k w (e .who) g)
+  note-kept e p g up now = record {
     slips = λ s bs out q. q;
-    noted = λ s bs b seal parent got there slot none q. take-note S k w e p s b seal parent now got slot q;
-    accepts = λ s bs note b seal parent got there slot n same able o ends st bl se q. subst (λ (x : Option (Block R)). NoteAt S k w (e ∷ p) (s .phase) (s .view) (s .turn) x) (ap blockOf n) q;
+    noted = λ s bs b seal parent got there slot none q. take-note S k w e p g up s b seal parent now got slot q;
+    accepts = λ s bs note b seal parent got there slot n same able o ends st bl se q. subst (λ (x : Option (Block R)). NoteAt S k w g (s .phase) (s .view) (s .turn) x) (ap blockOf n) q;
     spoils = λ s bs note b slot n differs q. q;
     blames-own = λ s bs q. q;
     keeps-vote = λ s bs i b seal got c q. q;
     keeps-blame = λ s bs row q. q;
     shelves = λ s c source new o ends high more q.
-      shelve-cases (λ (x : State S R). NoteInv S k w (e .who) (e ∷ p) x (shelf S k w (e .who) p)) c s (λ _. q)
-      (λ here. bare-note S k w (e ∷ p) (s .phase) (s .view) _ (q .low) (q .leaving-low)) (λ here _. bare-note S k w (e ∷ p) (s .phase) (s .view) _ (q .low) (q .leaving-low));
-    leaves-view = λ s bs v why low t q. bare-note S k w (e ∷ p) (Leaving (s .now)) v (s .turn) (at-most s v why low q) (λ _ _. under s v why low q);
+      shelve-cases (λ (x : State S R). NoteInv S k w (e .who) g x (shelf S k w (e .who) p)) c s (λ _. q)
+      (λ here. bare-note S k w g (s .phase) (s .view) _ (q .low) (q .leaving-low)) (λ here _. bare-note S k w g (s .phase) (s .view) _ (q .low) (q .leaving-low));
+    leaves-view = λ s bs v why low t q. bare-note S k w g (Leaving (s .now)) v (s .turn) (at-most s v why low q) (λ _ _. under s v why low q);
     clock-ticks = λ s bs q. q;
     enters = λ s bs since leaving q. entering s bs since leaving q;
-    votes-own = λ s bs note on n q. subst (λ (x : Option (Block R)). NoteAt S k w (e ∷ p) (s .phase) (s .view) (s .turn) x) (ap blockOf n) q;
+    votes-own = λ s bs note on n q. subst (λ (x : Option (Block R)). NoteAt S k w g (s .phase) (s .view) (s .turn) x) (ap blockOf n) q;
     offers-own = λ s bs on fresh room q. q;
   }
     where
-      at-most : (s : State S R) (v : ℕ) → ((mask : ℕ) × (seals : List ℕ) × Handed S k w e (Notice v mask seals)) ⊎ (s .view ≡ v) → eqb v lastView ≡ false → NoteInv S k w (e .who) (e ∷ p) s [] → v ≤ 65535
+      at-most : (s : State S R) (v : ℕ) → ((mask : ℕ) × (seals : List ℕ) × Handed S k w e (Notice v mask seals)) ⊎ (s .view ≡ v) → eqb v lastView ≡ false → NoteInv S k w (e .who) g s [] → v ≤ 65535
       at-most s v (inl got) low q = let two = got .2 .1 .0 in omega arith
       at-most s v (inr same) low q = let l = q .low in omega arith
 
-      under : (s : State S R) (v : ℕ) → ((mask : ℕ) × (seals : List ℕ) × Handed S k w e (Notice v mask seals)) ⊎ (s .view ≡ v) → eqb v lastView ≡ false → NoteInv S k w (e .who) (e ∷ p) s [] → v < 65535
+      under : (s : State S R) (v : ℕ) → ((mask : ℕ) × (seals : List ℕ) × Handed S k w e (Notice v mask seals)) ⊎ (s .view ≡ v) → eqb v lastView ≡ false → NoteInv S k w (e .who) g s [] → v < 65535
       under s v why low q =
           let m : v ≤ 65535 = at-most s v why low q in
           let d : v ≡ 65535 → ⊥ = eqb-false v lastView low in
           omega arith
 
-      entering : (s : State S R) (bs : List (Block R)) (since : ℕ) → s .phase ≡ Leaving since → NoteInv S k w (e .who) (e ∷ p) s bs →
-          NoteAt S k w (e ∷ p) On (min (s .view + 1) lastView) (turnAfter (topTurn (min (s .view + 1) lastView) bs)) (blockOf (roundAt (turnAfter (topTurn (min (s .view + 1) lastView) bs)) (s .round) .note))
+      entering : (s : State S R) (bs : List (Block R)) (since : ℕ) → s .phase ≡ Leaving since → NoteInv S k w (e .who) g s bs →
+          NoteAt S k w g On (min (s .view + 1) lastView) (turnAfter (topTurn (min (s .view + 1) lastView) bs)) (blockOf (roundAt (turnAfter (topTurn (min (s .view + 1) lastView) bs)) (s .round) .note))
       entering s bs since leaving q =
           let l : s .view < 65535 = q .leaving-low since leaving in
           let up : min (s .view + 1) lastView ≡ s .view + 1 = omega arith in
           by (min (s .view + 1) lastView) (turnAfter (topTurn (min (s .view + 1) lastView) bs)) up
         where
-          by : (v t : ℕ) → v ≡ s .view + 1 → NoteAt S k w (e ∷ p) On v t (blockOf (roundAt t (s .round) .note))
+          by : (v t : ℕ) → v ≡ s .view + 1 → NoteAt S k w g On v t (blockOf (roundAt t (s .round) .note))
           by v t up = elim (cases-bool (eqb t 0)) [
-            | inl z ↦ subst (λ (x : Bool). NoteAt S k w (e ∷ p) On v t (blockOf (cond x (s .round) (record { note = None; votes = s .round .votes; offered = s .round .offered }) .note))) (sym z)
-                (enter-note S k w (e ∷ p) since v t (s .view) (blockOf (s .round .note)) up (leaving-turn S k w (e ∷ p) (s .phase) since (s .view) (s .turn) 0 (blockOf (s .round .note)) leaving q) (eqb-true t 0 z))
-            | inr z ↦ subst (λ (x : Bool). NoteAt S k w (e ∷ p) On v t (blockOf (cond x (s .round) (record { note = None; votes = s .round .votes; offered = s .round .offered }) .note))) (sym z)
-                (bare-note S k w (e ∷ p) On v t (let l : s .view < 65535 = q .leaving-low since leaving in omega arith) (λ u x. absurd (leaving-on u x)))
+            | inl z ↦ subst (λ (x : Bool). NoteAt S k w g On v t (blockOf (cond x (s .round) (record { note = None; votes = s .round .votes; offered = s .round .offered }) .note))) (sym z)
+                (enter-note S k w g since v t (s .view) (blockOf (s .round .note)) up (leaving-turn S k w g (s .phase) since (s .view) (s .turn) 0 (blockOf (s .round .note)) leaving q) (eqb-true t 0 z))
+            | inr z ↦ subst (λ (x : Bool). NoteAt S k w g On v t (blockOf (cond x (s .round) (record { note = None; votes = s .round .votes; offered = s .round .offered }) .note))) (sym z)
+                (bare-note S k w g On v t (let l : s .view < 65535 = q .leaving-low since leaving in omega arith) (λ u x. absurd (leaving-on u x)))
             ]
 
   -- along every run a seat's note is such
@@ -167,4 +168,4 @@ module _ {L : ℕ} {R : Type 0} (S : ℕ) (k : Kind L R) (w : Setting) (law : La
       along S k w law (NoteInv S k w)
       (λ i. bare-note S k w [] On 0 0 (omega arith) (λ t x. absurd (leaving-on t x)))
       (λ i e p s bs q. lift-note S k w e p (s .phase) (s .view) (s .turn) (blockOf (s .round .note)) q)
-      note-kept
+      (λ e p now run. note-kept e p (e ∷ p) (λ i st q. inr q) now)
