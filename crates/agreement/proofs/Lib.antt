@@ -8,3 +8,4 @@ pub mod Quorum
 pub mod Sent
 pub mod Statements
 pub mod Verdicts
+pub mod Votes
