@@ -164,3 +164,22 @@ module _ {L : ℕ} {R : Type 0} (S : ℕ) (k : Kind L R) (w : Setting) (law : La
                 (subst (λ (j : ℕ). Inv j (e ∷ p) (state S k w j p) (shelf S k w j p)) same l))
           | inr f ↦ subst (λ (d : Desk S R). Inv i (e ∷ p) (d .state) (d .blocks)) (sym (desk-other S k w i e p f)) l
         ]
+
+  -- the same for facts that are said of the moment before each call
+  module _ (Inv : ℕ → History → State S R → List (Block R) → Type 0)
+      (base : (i : ℕ) → Inv i [] newState [])
+      (lift : (i : ℕ) (e : Event) (p : History) (s : State S R) (bs : List (Block R)) → Inv i p s bs → Inv i (e ∷ p) s bs)
+      (keep : (e : Event) (p : History) → Moment S k w e p → Run S k w p → Kept S k w e p (Inv (e .who) p)) where
+    pub along-before : (i : ℕ) (h : History) → Sound w i → Run S k w h → Inv i h (state S k w i h) (shelf S k w i h)
+    along-before i [] sound run = subst (λ (d : Desk S R). Inv i [] (d .state) (d .blocks)) (sym (desk-none S k w i)) (base i)
+    along-before i (e ∷ p) sound run =
+        let q : Inv i p (state S k w i p) (shelf S k w i p) = along-before i p sound (run .1) in
+        elim (cases-bool (eqb i (e .who))) [
+          | inl t ↦
+              let same : i ≡ e .who = eqb-true i (e .who) t in
+              subst (λ (j : ℕ). Inv j (e ∷ p) (state S k w j (e ∷ p)) (shelf S k w j (e ∷ p))) (sym same)
+              (lift (e .who) e p (state S k w (e .who) (e ∷ p)) (shelf S k w (e .who) (e ∷ p))
+                (keep-call (Inv (e .who) p) e p (run .0) (keep e p (run .0) (run .1))
+                  (subst (λ (j : ℕ). Inv j p (state S k w j p) (shelf S k w j p)) same q)))
+          | inr f ↦ subst (λ (d : Desk S R). Inv i (e ∷ p) (d .state) (d .blocks)) (sym (desk-other S k w i e p f)) (lift i e p (state S k w i p) (shelf S k w i p) q)
+        ]

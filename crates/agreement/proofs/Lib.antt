@@ -1,4 +1,5 @@
 pub mod Along
+pub mod Ballots
 pub mod Basics
 pub mod Cases
 pub mod Facts

@@ -76,7 +76,10 @@ module _ {L : ℕ} {R : Type 0} (S : ℕ) (k : Kind L R) (w : Setting) where
   bare-note : (h : History) (f : Phase) (view turn : ℕ) → view ≤ 65535 → ((since : ℕ) → f ≡ Leaving since → view < 65535) → NoteAt h f view turn None
   bare-note h f view turn l m = record { low = l; leaving-low = m; lawful = λ b e. absurd (none-some e); placed = λ b e. absurd (none-some e); proposed = λ b e. absurd (none-some e) }
 
-  lift-note : (e : Event) (p : History) (f : Phase) (view turn : ℕ) (nb : Option (Block R)) → NoteAt p f view turn nb → NoteAt (e ∷ p) f view turn nb
+  pub note-base : (i : ℕ) → NoteInv i [] newState []
+  note-base i = bare-note [] On 0 0 (omega arith) (λ t x. absurd (leaving-on t x))
+
+  pub lift-note : (e : Event) (p : History) (f : Phase) (view turn : ℕ) (nb : Option (Block R)) → NoteAt p f view turn nb → NoteAt (e ∷ p) f view turn nb
   lift-note e p f view turn nb q = record { low = q .low; leaving-low = q .leaving-low; lawful = q .lawful; placed = q .placed; proposed = λ b t s. inr (q .proposed b t s) }
 
   -- the leader of a proposal handed in, if sound, made it
@@ -166,6 +169,6 @@ module _ {L : ℕ} {R : Type 0} (S : ℕ) (k : Kind L R) (w : Setting) (law : La
   pub note-fine : (i : ℕ) (h : History) → Sound w i → Run S k w h → NoteInv S k w i h (state S k w i h) (shelf S k w i h)
   note-fine =
       along S k w law (NoteInv S k w)
-      (λ i. bare-note S k w [] On 0 0 (omega arith) (λ t x. absurd (leaving-on t x)))
+      (note-base S k w)
       (λ i e p s bs q. lift-note S k w e p (s .phase) (s .view) (s .turn) (blockOf (s .round .note)) q)
       (λ e p now run. note-kept e p (e ∷ p) (λ i st q. inr q) now)
