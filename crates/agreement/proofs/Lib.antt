@@ -5,6 +5,7 @@ pub mod Cases
 pub mod Facts
 pub mod Keeps
 pub mod Notes
+pub mod Primed
 pub mod Quorum
 pub mod Sent
 pub mod Statements
