@@ -1,3 +1,4 @@
+pub mod Acceptances
 pub mod Along
 pub mod Ballots
 pub mod Basics
