@@ -1,2 +1,4 @@
 pub mod Facts
+pub mod Messages
 pub mod OneStep
+pub mod Steps
