@@ -1,5 +1,7 @@
 pub mod Facts
 pub mod Messages
 pub mod OneStep
+pub mod Rounds
+pub mod Sane
 pub mod Shelves
 pub mod Steps

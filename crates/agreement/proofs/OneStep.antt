@@ -62,7 +62,8 @@ pub gives-carried : {X Y : Type 0} (Q : Y → Type 0) (f : X → Y) (r : Result 
 gives-carried Q f (Ok x) h = gives-ok Q (f x) (h x refl)
 gives-carried Q f (Err e) h = gives-err Q e
 
-gives-twice : {X Y Z : Type 0} (Q : Z → Type 0) (f : X → Y) (g : Y → Z) (r : Result X Refusal) → Gives r (λ x. Q (g (f x))) → Gives (carried g (carried f r)) Q
+-- so does one that is carried twice
+pub gives-twice : {X Y Z : Type 0} (Q : Z → Type 0) (f : X → Y) (g : Y → Z) (r : Result X Refusal) → Gives r (λ x. Q (g (f x))) → Gives (carried g (carried f r)) Q
 gives-twice Q f g (Ok x) h = gives-ok Q (g (f x)) (h x refl)
 gives-twice Q f g (Err e) h = gives-err Q e
 

@@ -158,7 +158,7 @@ module _ {R : Type 0} where
   TurnOn v t bs = (b : Block R) × OnShelf b bs × (b .rank .view ≡ v) × (b .rank .turn ≡ t)
 
   -- what the highest turn of a view says
-  abbrev TopOf : ℕ → List (Block R) → Option ℕ → Type 0
+  abbrev pub TopOf : ℕ → List (Block R) → Option ℕ → Type 0
   TopOf v bs None = (b : Block R) → OnShelf b bs → b .rank .view ≡ v → ⊥
   TopOf v bs (Some t) = TurnOn v t bs × ((b : Block R) → OnShelf b bs → b .rank .view ≡ v → b .rank .turn ≤ t)
 
