@@ -1,4 +1,5 @@
 pub mod Facts
+pub mod Invariant
 pub mod Messages
 pub mod OneStep
 pub mod Rounds
