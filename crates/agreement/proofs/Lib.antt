@@ -6,3 +6,4 @@ pub mod Rounds
 pub mod Sane
 pub mod Shelves
 pub mod Steps
+pub mod Time
