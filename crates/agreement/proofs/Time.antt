@@ -89,3 +89,89 @@ module _ {L : ℕ} {R : Type 0} (S : ℕ) (k : Kind L R) (w : Setting) where
   clock-rises i p h x =
       kept-later (λ h. clock S k w i p ≤ clock S k w i h) p (omega arith)
       (λ e h l. let n : clock S k w i h ≤ clock S k w i (e ∷ h) = clock-next i e h in omega arith) h x
+
+  -- while leaving, what the order of a seat says of its time
+  fits-leaving : (i since : ℕ) (h : History) → Ordered S k w (desk S k w i h) → state S k w i h .phase ≡ Leaving since →
+      (state S k w i h .view < 65535) × (since ≤ clock S k w i h) × (clock S k w i h ≤ since + 2 * w .delta)
+  fits-leaving i since h o e =
+      let s : State S R = state S k w i h in
+      subst (λ ph. PhaseFits (w .delta) ph (s .now) (s .view) (s .turn) (shelf S k w i h)) e (o .core-sane .phase-fits)
+
+  module _ (lawful : Lawful w) where
+    pub leaving-short : (i since : ℕ) (h : History) → Sound w i → Run S k w h → state S k w i h .phase ≡ Leaving since →
+        (since ≤ clock S k w i h) × (clock S k w i h ≤ since + 2 * w .delta)
+    leaving-short i since h sound run e =
+        let f = fits-leaving i since h (ordered S k w lawful i h run) e in
+        (f .1, f .2)
+
+    -- the stage never falls
+    stage-step : (e : Event) (p : History) (d : Desk S R) → Ordered S k w (desk S k w (e .who) p) → Step S k w e p d → stage (state S k w (e .who) p) ≤ stage (d .state)
+    stage-step e p d o (rests c b) = let z : stage (d .state) ≡ stage (state S k w (e .who) p) = ap stageOf c in omega arith
+    stage-step e p d o (ticks c b short) = let z : stage (d .state) ≡ stage (state S k w (e .who) p) = ap stageOf c in omega arith
+    stage-step e p d o (enters since f long c b) =
+        let v : ℕ = state S k w (e .who) p .view in
+        let z : stage (d .state) ≡ 2 * min (v + 1) 65535 = ap stageOf c in
+        let y : stage (state S k w (e .who) p) ≡ 2 * v + 1 = stage-leaving (state S k w (e .who) p .phase) since v f in
+        let small : v < 65535 = fits-leaving (e .who) since p o f .0 in
+        omega arith
+    stage-step e p d o (takes c good follows co b took sends) = let z : stage (d .state) ≡ stage (state S k w (e .who) p) = ap stageOf co in omega arith
+    stage-step e p d o (departs v small leads c b sends) =
+        let u : ℕ = state S k w (e .who) p .view in
+        let z : stage (d .state) ≡ 2 * v + 1 = ap stageOf c in
+        let y : stage (state S k w (e .who) p) ≤ 2 * u + 1 = stage-most (isOn (state S k w (e .who) p .phase)) u in
+        elim leads [
+          | inl l ↦ (let m : u < v = l in omega arith)
+          | inr l ↦ (let m : u ≡ v = l .1 in omega arith)
+        ]
+
+    stage-next : (i : ℕ) (e : Event) (p : History) → Run S k w (e ∷ p) → stage (state S k w i p) ≤ stage (state S k w i (e ∷ p))
+    stage-next i e p run =
+        elim (whose (e .who) i) [
+          | inl q ↦
+              subst (λ j. stage (state S k w j p) ≤ stage (state S k w j (e ∷ p))) q
+              (stage-step e p (desk S k w (e .who) (e ∷ p)) (ordered S k w lawful (e .who) p (run .1)) (step S k w e p))
+          | inr q ↦ (let z : stage (state S k w i (e ∷ p)) ≡ stage (state S k w i p) = ap (λ (d : Desk S R). stage (d .state)) (desk-other S k w i e p q) in omega arith)
+        ]
+
+    pub stage-rises : (i : ℕ) (p h : History) → Sound w i → Run S k w h → Earlier p h → stage (state S k w i p) ≤ stage (state S k w i h)
+    stage-rises i p h sound run x =
+        kept-in-run (λ h. stage (state S k w i p) ≤ stage (state S k w i h)) p (omega arith)
+        (λ e h r _ l. let n : stage (state S k w i h) ≤ stage (state S k w i (e ∷ h)) = stage-next i e h r in omega arith) h run x
+
+    -- a seat that is leaving, and was at the same stage before the call, has been leaving since the same tick
+    since-step : (e : Event) (p : History) (d : Desk S R) (since : ℕ) → Step S k w e p d → stage (state S k w (e .who) p) ≡ stage (d .state) →
+        d .state .phase ≡ Leaving since → state S k w (e .who) p .phase ≡ Leaving since
+    since-step e p d since (rests c b) s f = sym (ap (λ (x : Core R). x .phase) c) ∙ f
+    since-step e p d since (ticks c b short) s f = sym (ap (λ (x : Core R). x .phase) c) ∙ f
+    since-step e p d since (enters since' g long c b) s f = absurd (on-leaving since (sym (ap (λ (x : Core R). x .phase) c) ∙ f))
+    since-step e p d since (takes c good follows co b took sends) s f = sym (ap (λ (x : Core R). x .phase) co) ∙ f
+    since-step e p d since (departs v small leads c b sends) s f =
+        let u : ℕ = state S k w (e .who) p .view in
+        let z : stage (d .state) ≡ 2 * v + 1 = ap stageOf c in
+        let y : stage (state S k w (e .who) p) ≤ 2 * u + 1 = stage-most (isOn (state S k w (e .who) p .phase)) u in
+        absurd (elim leads [
+          | inl l ↦ (let m : u < v = l in omega arith)
+          | inr l ↦ (let m : u ≡ v = l .1 in let n : stage (state S k w (e .who) p) ≡ 2 * u = stage-on (state S k w (e .who) p .phase) u (l .0) in omega arith)
+        ])
+
+    since-next : (i : ℕ) (e : Event) (p : History) (since : ℕ) → stage (state S k w i p) ≡ stage (state S k w i (e ∷ p)) →
+        state S k w i (e ∷ p) .phase ≡ Leaving since → state S k w i p .phase ≡ Leaving since
+    since-next i e p since s f =
+        elim (whose (e .who) i) [
+          | inl q ↦
+              subst (λ j. state S k w j p .phase ≡ Leaving since) q
+              (since-step e p (desk S k w (e .who) (e ∷ p)) since (step S k w e p)
+              (subst (λ j. stage (state S k w j p) ≡ stage (state S k w j (e ∷ p))) (sym q) s) (subst (λ j. state S k w j (e ∷ p) .phase ≡ Leaving since) (sym q) f))
+          | inr q ↦ sym (ap (λ (d : Desk S R). d .state .phase) (desk-other S k w i e p q)) ∙ f
+        ]
+
+    pub leaving-began : (i since : ℕ) (p h : History) → Sound w i → Run S k w h → Earlier p h →
+        stage (state S k w i p) ≡ stage (state S k w i h) → state S k w i h .phase ≡ Leaving since → since ≤ clock S k w i p
+    leaving-began i since p h sound run x =
+        kept-in-run (λ h. stage (state S k w i p) ≡ stage (state S k w i h) → state S k w i h .phase ≡ Leaving since → since ≤ clock S k w i p) p
+        (λ s f. leaving-short i since p sound (run-earlier p h run x) f .0)
+        (λ e h r y l s f.
+        let a : stage (state S k w i p) ≤ stage (state S k w i h) = stage-rises i p h sound (r .1) y in
+        let b : stage (state S k w i h) ≤ stage (state S k w i (e ∷ h)) = stage-next i e h r in
+        let c : stage (state S k w i h) ≡ stage (state S k w i (e ∷ h)) = omega arith in
+        l (omega arith) (since-next i e h since c f)) h run x
