@@ -5,6 +5,7 @@ pub mod Messages
 pub mod OneStep
 pub mod Rounds
 pub mod Sane
+pub mod Shelved
 pub mod Shelves
 pub mod Steps
 pub mod Time
