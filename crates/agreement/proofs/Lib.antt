@@ -1,3 +1,4 @@
+pub mod Carried
 pub mod Entries
 pub mod Facts
 pub mod Invariant

@@ -179,7 +179,8 @@ module _ {R : Type 0} where
   one-up h None e = absurd (false≢true e)
   one-up h (Some p) e = (p, refl, eqb-true (p .height + 1) h e)
 
-  parent-from-test : (bs : List (Block R)) (b : Block R) → parentThere bs b ≡ true → (b .height ≡ 1) ⊎ ((p : Block R) × Parent bs b p)
+  -- the test of a parent finds it
+  pub parent-from-test : (bs : List (Block R)) (b : Block R) → parentThere bs b ≡ true → (b .height ≡ 1) ⊎ ((p : Block R) × Parent bs b p)
   parent-from-test bs b e =
       elim (cases-bool (eqb (b .height) 1)) [
         | inl t ↦ inl (eqb-true (b .height) 1 t)
