@@ -61,9 +61,9 @@ module _ {L : ℕ} {R : Type 0} (S : ℕ) (k : Kind L R) (w : Setting) where
   shelf-after e p o bs r q = let f = desk-done S k w e p o r in ap (λ (d : Desk S R). d .blocks) (f .1) ∙ q
 
   -- the parent of a proposal that was taken is on the shelf
-  parent-on : (b : Block R) (parent : Option (Certificate R (List ℕ))) (bs : List (Block R)) → LawfulParent k S (w .n) b parent → ParentIn parent bs → ParentOn S k w b bs
-  parent-on b None bs one there = inl one
-  parent-on b (Some c) bs lawful there =
+  pub parent-in-on : (b : Block R) (parent : Option (Certificate R (List ℕ))) (bs : List (Block R)) → LawfulParent k S (w .n) b parent → ParentIn parent bs → ParentOn S k w b bs
+  parent-in-on b None bs one there = inl one
+  parent-in-on b (Some c) bs lawful there =
       let q = and-parts (sameRank (c .block .rank) (b .parent)) _ (lawful .2) in
       let rank : c .block .rank ≡ b .parent = same-ranks (c .block .rank) (b .parent) (q .0) in
       let high : c .block .height + 1 ≡ b .height = eqb-true (c .block .height + 1) (b .height) (q .1) in
@@ -94,11 +94,10 @@ module _ {L : ℕ} {R : Type 0} (S : ℕ) (k : Kind L R) (w : Setting) where
         mine = refl;
         at-tick = ap (λ (x : State S R). x .now) (done .1);
         on-after = (ap (λ (x : State S R). x .phase) (done .1) ∙ here, ap (λ (x : State S R). x .view) (done .1) ∙ sym (at .0));
-        turn-after = ap (λ (x : State S R). x .turn) (done .1) ∙ sym (at .1);
         relays = (inboxOf (e .what), (o, ends, inr (inl (subst (λ (x : Option (Sending R)). Is S k w (inboxOf (e .what)) (inboxOf (e .what)) x) (sym se) refl))),
           λ x reads. (seal, parent, ok-same (sym reads ∙ got .0 .0) ∙ ap (λ (y : Block R). Proposal y seal parent) (sym it)));
         parent-there = subst (λ (xs : List (Block R)). ParentOn S k w (note .block) xs) (sym (shelf-after e p o bs ends bl))
-          (subst (λ (y : Block R). ParentOn S k w y bs) (sym it) (parent-on b parent bs (got .1 .2) there));
+          (subst (λ (y : Block R). ParentOn S k w y bs) (sym it) (parent-in-on b parent bs (got .1 .2) there));
       }
 
   above-lock : (s : State S R) (b : Block R) → acceptable s b ≡ true → s .turn ≡ 0 → atLeast (parentOf b) (s .lock) ≡ true

@@ -106,7 +106,7 @@ module _ {L S : ℕ} {R : Type 0} (k : Kind L R) (p : Terms) where
 
   -- a proposal, once its parent was taken in
   module _ (P : Outcome S R → Type 0) (b : Block R) (o : Outcome S R)
-      (stays : P o)
+      (stays : slotOpen (o .state) b ≡ false → P o)
       (takes : (note : Note R) (rest : Word) → slotOpen (o .state) b ≡ true → NoteFor k b (o .state .round .note) note → (rest ≡ Noted) ⊎ (rest ≡ o .word) →
           P (adds o rest None None (withNote (Some note) (o .state))))
       (passes : (note : Note R) → slotOpen (o .state) b ≡ true → NoteFor k b (o .state .round .note) note → acceptable (o .state) (note .block) ≡ true → isSome (note .accepted) ≡ false →
@@ -132,7 +132,7 @@ module _ {L S : ℕ} {R : Type 0} (k : Kind L R) (p : Terms) where
 
     pub proposed-cases : P (proposed k p b o)
     proposed-cases =
-        cond-both (slotOpen (o .state) b) _ _ P (λ slot. note-cases (o .state .round .note) refl slot) (λ _. stays)
+        cond-both (slotOpen (o .state) b) _ _ P (λ slot. note-cases (o .state .round .note) refl slot) stays
 
   module _ (P : Outcome S R → Type 0) (s : State S R) (bs : List (Block R)) (cells : ℕ) (o : Outcome S R) where
     verdict-cases : (f : Verdict → Outcome S R) (b : Block R) → carried f (judgeIn k s bs cells b) ≡ Ok o →

@@ -51,6 +51,15 @@ abbrev pub ParentIn : {R : Type 0} → Option (Certificate R (List ℕ)) → Lis
 ParentIn None bs = Unit {0}
 ParentIn {R} (Some c) bs = (x : Block R) × OnShelf x bs × (x .rank ≡ c .block .rank) × (x .height ≡ c .block .height)
 
+-- so it is once the certificate was taken in, known or new
+pub parent-known : {L S : ℕ} {R : Type 0} (k : Kind L R) (s : State S R) (bs : List (Block R)) (cells : ℕ) (c : Certificate R (List ℕ)) → judgeIn k s bs cells (c .block) ≡ Ok Known → ParentIn (Some c) bs
+parent-known k s bs cells c e =
+    let f = known-there k s bs cells (c .block) e in
+    (f .0, found-on-shelf (c .block .rank) bs (f .0) (f .1), find-rank (c .block .rank) bs (f .0) (f .1), same-alike k (f .0) (c .block) (f .2) .height)
+
+pub parent-new : {R : Type 0} (bs : List (Block R)) (c : Certificate R (List ℕ)) → ParentIn (Some c) (bs ++ (c .block ∷ []))
+parent-new bs c = (c .block, last-on-shelf bs (c .block), refl, refl)
+
 -- taking a note leaves the slot as it is
 at-note : {S : ℕ} {R : Type 0} (f : Phase) (s : State S R) (n : Option (Note R)) (b : Block R) → atSlot f (withNote n s) b ≡ atSlot f s b
 at-note On s n b = refl
@@ -111,7 +120,7 @@ module _ {L S : ℕ} {R : Type 0} (k : Kind L R) (p : Terms) (cells : ℕ) (Got 
   -- a proposal changes neither the shelf nor the height committed
   pub proposed-leaves : (b : Block R) (o : Outcome S R) → ((proposed k p b o) .height ≡ o .height) × ((proposed k p b o) .blocks ≡ o .blocks)
   proposed-leaves b o =
-      proposed-cases k p (λ x. (x .height ≡ o .height) × (x .blocks ≡ o .blocks)) b o (refl, refl) (λ _ _ _ _ _. (refl, refl)) (λ _ _ _ _ _. (refl, refl))
+      proposed-cases k p (λ x. (x .height ≡ o .height) × (x .blocks ≡ o .blocks)) b o (λ _. (refl, refl)) (λ _ _ _ _ _. (refl, refl)) (λ _ _ _ _ _. (refl, refl))
       (λ note _ _ _. cond-both (isOn (o .state .phase) && not (o .state .blamed)) _ _ (λ (x : Outcome S R). (x .height ≡ o .height) × (x .blocks ≡ o .blocks)) (λ _. (refl, refl)) (λ _. (refl, refl)))
 
   module _ (Q : State S R → List (Block R) → Type 0) (keep : Keeps Q) where
@@ -135,7 +144,7 @@ module _ {L S : ℕ} {R : Type 0} (k : Kind L R) (p : Terms) (cells : ℕ) (Got 
         (Ends (proposed k p b o) → Q (o .state) (o .blocks)) → Held (proposed k p b o)
     keep-proposed o b seal parent got there held ends =
         let q = held ends in
-        proposed-cases k p (λ x. x ≡ proposed k p b o → Q (x .state) (x .blocks)) b o (λ _. q)
+        proposed-cases k p (λ x. x ≡ proposed k p b o → Q (x .state) (x .blocks)) b o (λ _ _. q)
         (λ note rest slot fit _ _. taking o b seal parent note got there slot fit q)
         (λ note slot fit able fresh e.
           keep .accepts (withNote (Some note) (o .state)) (o .blocks) note b seal parent got there (slot-noted (o .state) (Some note) b slot) refl (fits-block b (o .state .round .note) note fit) able
@@ -148,21 +157,13 @@ module _ {L S : ℕ} {R : Type 0} (k : Kind L R) (p : Terms) (cells : ℕ) (Got 
           (λ _. keep .spoils (o .state) (o .blocks) note b slot e differs q))
         refl
 
-    parent-known : (s : State S R) (c : Certificate R (List ℕ)) → judgeIn k s before cells (c .block) ≡ Ok Known → ParentIn (Some c) before
-    parent-known s c e =
-        let f = known-there k s before cells (c .block) e in
-        (f .0, found-on-shelf (c .block .rank) before (f .0) (f .1), find-rank (c .block .rank) before (f .0) (f .1), same-alike k (f .0) (c .block) (f .2) .height)
-
-    parent-new : (c : Certificate R (List ℕ)) → ParentIn (Some c) (before ++ (c .block ∷ []))
-    parent-new c = (c .block, last-on-shelf before (c .block), refl, refl)
-
     -- what holds before a call that hands a message in holds after it
     pub keep-hand : (s : State S R) (m : Parts R (List ℕ)) (o : Outcome S R) → Got m → handParts k p s before cells m ≡ Ok o → Ends o → Q s before → Q (o .state) (o .blocks)
     keep-hand s (Proposal b seal parent) o got e ends q =
         proposal-cases k p Held s before cells o b parent e
         (λ none. keep-proposed (idle s before) b seal parent got (subst (λ x. ParentIn x before) (sym none) tt) (λ _. q))
-        (λ c some j. keep-proposed (idle s before) b seal parent got (subst (λ x. ParentIn x before) (sym some) (parent-known s c j)) (λ _. q))
-        (λ c some j. keep-proposed (taken s before c (write (Certified c)) New) b seal parent got (subst (λ x. ParentIn x (before ++ (c .block ∷ []))) (sym some) (parent-new c))
+        (λ c some j. keep-proposed (idle s before) b seal parent got (subst (λ x. ParentIn x before) (sym some) (parent-known k s before cells c j)) (λ _. q))
+        (λ c some j. keep-proposed (taken s before c (write (Certified c)) New) b seal parent got (subst (λ x. ParentIn x (before ++ (c .block ∷ []))) (sym some) (parent-new before c))
           (λ end. let l = proposed-leaves b (taken s before c (write (Certified c)) New) in
             keep .shelves s c (inr (inl (b, seal, subst (λ x. Got (Proposal b seal x)) some got))) j (proposed k p b (taken s before c (write (Certified c)) New)) end (l .0) (l .1) q))
         ends

@@ -67,7 +67,7 @@ module _ {L S : ℕ} {R : Type 0} (k : Kind L R) (p : Terms) where
 
   proposed-modest : (b : Block R) (o : Outcome S R) → Modest o → Modest (proposed k p b o)
   proposed-modest b o q =
-      proposed-cases k p Modest b o q (λ _ _ _ _ _. (tt, tt)) (λ _ _ _ _ _. (tt, tt))
+      proposed-cases k p Modest b o (λ _. q) (λ _ _ _ _ _. (tt, tt)) (λ _ _ _ _ _. (tt, tt))
       (λ note _ _ _. cond-both (isOn (o .state .phase) && not (o .state .blamed)) _ _ Modest (λ _. (tt, tt)) (λ _. (tt, tt)))
 
   pub hand-modest : (s : State S R) (bs : List (Block R)) (cells : ℕ) (m : Parts R (List ℕ)) (o : Outcome S R) → handParts k p s bs cells m ≡ Ok o →
