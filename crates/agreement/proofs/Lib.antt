@@ -12,6 +12,7 @@ pub mod Messages
 pub mod Notes
 pub mod OneStep
 pub mod Primed
+pub mod Proposals
 pub mod Quorum
 pub mod Rounds
 pub mod Sane
