@@ -83,6 +83,12 @@ shelve-cases P c s away stays commit = by (here s (c .block)) (not (s .spoiled))
     by true false e f = stays e
     by false n e f = away e
 
+-- a proposal changes neither the shelf nor the height committed
+pub proposed-leaves : {L S : ℕ} {R : Type 0} (k : Kind L R) (p : Terms) (b : Block R) (o : Outcome S R) → ((proposed k p b o) .height ≡ o .height) × ((proposed k p b o) .blocks ≡ o .blocks)
+proposed-leaves {S} {R} k p b o =
+    proposed-cases k p (λ (x : Outcome S R). (x .height ≡ o .height) × (x .blocks ≡ o .blocks)) b o (λ _. (refl, refl)) (λ _ _ _ _ _. (refl, refl)) (λ _ _ _ _ _. (refl, refl))
+    (λ note _ _ _. cond-both (isOn (o .state .phase) && not (o .state .blamed)) _ _ (λ (x : Outcome S R). (x .height ≡ o .height) × (x .blocks ≡ o .blocks)) (λ _. (refl, refl)) (λ _. (refl, refl)))
+
 -- Got: which messages the call handed in. Ends: how the call ended. before: the shelf at its start.
 module _ {L S : ℕ} {R : Type 0} (k : Kind L R) (p : Terms) (cells : ℕ) (Got : Parts R (List ℕ) → Type 0) (Ends : Outcome S R → Type 0) (before : List (Block R)) where
   -- where a certificate that is taken in comes from: a message, or the quorum of votes that a vote completed
@@ -116,12 +122,6 @@ module _ {L S : ℕ} {R : Type 0} (k : Kind L R) (p : Terms) (cells : ℕ) (Got 
     pub votes-own : (s : State S R) (bs : List (Block R)) (note : Note R) → s .phase ≡ On → s .round .note ≡ Some note → Q s bs → Q (withNote (Some (votedFor note)) s) bs
     pub offers-own : (s : State S R) (bs : List (Block R)) → isOn (s .phase) ≡ true → s .round .offered ≡ false → (ltb lastTurn (s .turn) || ltb lastHeight (nextHeight (s .best))) ≡ false →
         Q s bs → Q (withOffered true s) bs
-
-  -- a proposal changes neither the shelf nor the height committed
-  pub proposed-leaves : (b : Block R) (o : Outcome S R) → ((proposed k p b o) .height ≡ o .height) × ((proposed k p b o) .blocks ≡ o .blocks)
-  proposed-leaves b o =
-      proposed-cases k p (λ x. (x .height ≡ o .height) × (x .blocks ≡ o .blocks)) b o (λ _. (refl, refl)) (λ _ _ _ _ _. (refl, refl)) (λ _ _ _ _ _. (refl, refl))
-      (λ note _ _ _. cond-both (isOn (o .state .phase) && not (o .state .blamed)) _ _ (λ (x : Outcome S R). (x .height ≡ o .height) × (x .blocks ≡ o .blocks)) (λ _. (refl, refl)) (λ _. (refl, refl)))
 
   module _ (Q : State S R → List (Block R) → Type 0) (keep : Keeps Q) where
     -- an outcome that is the call's keeps Q
@@ -164,7 +164,7 @@ module _ {L S : ℕ} {R : Type 0} (k : Kind L R) (p : Terms) (cells : ℕ) (Got 
         (λ none. keep-proposed (idle s before) b seal parent got (subst (λ x. ParentIn x before) (sym none) tt) (λ _. q))
         (λ c some j. keep-proposed (idle s before) b seal parent got (subst (λ x. ParentIn x before) (sym some) (parent-known k s before cells c j)) (λ _. q))
         (λ c some j. keep-proposed (taken s before c (write (Certified c)) New) b seal parent got (subst (λ x. ParentIn x (before ++ (c .block ∷ []))) (sym some) (parent-new before c))
-          (λ end. let l = proposed-leaves b (taken s before c (write (Certified c)) New) in
+          (λ end. let l = proposed-leaves k p b (taken s before c (write (Certified c)) New) in
             keep .shelves s c (inr (inl (b, seal, subst (λ x. Got (Proposal b seal x)) some got))) j (proposed k p b (taken s before c (write (Certified c)) New)) end (l .0) (l .1) q))
         ends
     keep-hand s (Vote i b seal) o got e ends q =

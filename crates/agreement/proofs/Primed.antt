@@ -46,7 +46,7 @@ note-none b old e q = subst (λ x. NoteIs b x) e q
 on-stage : (f : Phase) (view : ℕ) → isOn f ≡ true → cond (isOn f) (2 * view) (2 * view + 1) ≡ 2 * view
 on-stage f view e = ap (λ (x : Bool). cond x (2 * view) (2 * view + 1)) e
 
-leave-above : (f : Phase) (view v : ℕ) → (ltb view v || (isOn f && eqb view v)) ≡ true → cond (isOn f) (2 * view) (2 * view + 1) < 2 * v + 1
+pub leave-above : (f : Phase) (view v : ℕ) → (ltb view v || (isOn f && eqb view v)) ≡ true → cond (isOn f) (2 * view) (2 * view + 1) < 2 * v + 1
 leave-above On view v t = elim (or-cases (ltb view v) (eqb view v) t) [
   | inl q ↦ let l : view < v = ltb-true view v q in omega arith
   | inr q ↦ let l : view ≡ v = eqb-true view v q in omega arith

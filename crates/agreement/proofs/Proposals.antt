@@ -46,7 +46,7 @@ use Rattle.agreement.proofs.Carried.{good-step, judge-denies}
 use Rattle.agreement.proofs.Cases.{NoteFor, proposed-cases}
 use Rattle.agreement.proofs.Facts.{GoodMessage, NoteIs, OnIn, OnShelf, ParentOn, Primed, shelf, stage, state}
 use Rattle.agreement.proofs.Invariant.{ordered}
-use Rattle.agreement.proofs.Keeps.{ParentIn, parent-known, parent-new, shelve-cases}
+use Rattle.agreement.proofs.Keeps.{ParentIn, parent-known, parent-new, proposed-leaves, shelve-cases}
 use Rattle.agreement.proofs.Notes.{NoteInv, blockOf, note-fine}
 use Rattle.agreement.proofs.Shelved.{turns-below}
 use Rattle.agreement.proofs.Statements.{same-lawful}
@@ -118,11 +118,6 @@ proposed-slot : {L S : ℕ} {R : Type 0} (k : Kind L R) (p : Terms) (b : Block R
 proposed-slot {S} {R} k p b o =
     proposed-cases k p (λ (x : Outcome S R). SameSlot (x .state) (o .state)) b o (λ _. record { phase = refl; view = refl; turn = refl }) (λ _ _ _ _ _. record { phase = refl; view = refl; turn = refl }) (λ _ _ _ _ _. record { phase = refl; view = refl; turn = refl })
     (λ note _ _ _. cond-both (isOn (o .state .phase) && not (o .state .blamed)) _ _ (λ (x : Outcome S R). SameSlot (x .state) (o .state)) (λ _. record { phase = refl; view = refl; turn = refl }) (λ _. record { phase = refl; view = refl; turn = refl }))
-
-proposed-blocks : {L S : ℕ} {R : Type 0} (k : Kind L R) (p : Terms) (b : Block R) (o : Outcome S R) → proposed k p b o .blocks ≡ o .blocks
-proposed-blocks {S} {R} k p b o =
-    proposed-cases k p (λ (x : Outcome S R). x .blocks ≡ o .blocks) b o (λ _. refl) (λ _ _ _ _ _. refl) (λ _ _ _ _ _. refl)
-    (λ note _ _ _. cond-both (isOn (o .state .phase) && not (o .state .blamed)) _ _ (λ (x : Outcome S R). x .blocks ≡ o .blocks) (λ _. refl) (λ _. refl))
 
 module _ {L : ℕ} {R : Type 0} (S : ℕ) (k : Kind L R) (w : Setting) (law : Lawful w) where
   -- a note that a call leaves is lawful
@@ -250,7 +245,7 @@ module _ {L : ℕ} {R : Type 0} (S : ℕ) (k : Kind L R) (w : Setting) (law : La
 
       finished : (o : Outcome S R) → result S k w e p ≡ Ok (proposed k t b o) → stage (o .state) ≡ stage s → ParentIn parent (o .blocks) → Primed b (state S k w (e .who) (e ∷ p))
       finished o r level there =
-          let q = primes e p b seal parent o run lawful r level there (proposed-blocks k t b o) near far in
+          let q = primes e p b seal parent o run lawful r level there (proposed-leaves k t b o .1) near far in
           subst (λ (d : Desk S R). Primed b (d .state)) (sym (desk-done S k w e p (proposed k t b o) r .1)) q
 
       taking : (c : Certificate R (List ℕ)) (x : Result Verdict Refusal) → parent ≡ Some c → judgeIn k s bs cells (c .block) ≡ x →
