@@ -123,7 +123,7 @@ module _ {L : ℕ} {R : Type 0} (S : ℕ) (k : Kind L R) (w : Setting) (law : La
       let it : said .0 ≡ c .block = some-same (sym (said .1) ∙ ap blockOf (note .1)) ∙ same in
       (fine, said-voted S k w law p (found .0) (c .block) run fine (subst (λ (b : Block R). Said S k w (found .0) (voteStatement k b) p) it (said .2)))
 
-  vote-kept : (e : Event) (p : History) → Moment S k w e p → Run S k w p → Kept S k w e p (VoteInv S k w (e .who) p)
+  pub vote-kept : (e : Event) (p : History) → Moment S k w e p → Run S k w p → Kept S k w e p (VoteInv S k w (e .who) p)
   vote-kept e p now run = record {
     slips = λ s bs out q. q;
     noted = λ s bs b seal parent got there slot none q.

@@ -75,16 +75,16 @@ same-blocks {R} k x y lx ly e =
     some-same u v g = cc
 
 -- what holds of every refusal
-abbrev Denies : {X : Type 0} → Result X Refusal → (Refusal → Type 0) → Type 0
+abbrev pub Denies : {X : Type 0} → Result X Refusal → (Refusal → Type 0) → Type 0
 Denies {X} r Q = (x : Refusal) → r ≡ Err x → Q x
 
-denies-ok : {X : Type 0} (Q : Refusal → Type 0) (v : X) → Denies (Ok v) Q
+pub denies-ok : {X : Type 0} (Q : Refusal → Type 0) (v : X) → Denies (Ok v) Q
 denies-ok Q v x e = absurd (let z : _≡_ {A = ℕ} 0 1 = cc in omega arith)
 
-denies-err : {X : Type 0} (Q : Refusal → Type 0) (y : Refusal) → Q y → Denies {X = X} (Err y) Q
+pub denies-err : {X : Type 0} (Q : Refusal → Type 0) (y : Refusal) → Q y → Denies {X = X} (Err y) Q
 denies-err Q y h x e = let p : y ≡ x = cc in subst Q p h
 
-denies-either : {X : Type 0} {Q : Refusal → Type 0} (b : Bool) (r s : Result X Refusal) → (b ≡ true → Denies r Q) → (b ≡ false → Denies s Q) → Denies (cond b r s) Q
+pub denies-either : {X : Type 0} {Q : Refusal → Type 0} (b : Bool) (r s : Result X Refusal) → (b ≡ true → Denies r Q) → (b ≡ false → Denies s Q) → Denies (cond b r s) Q
 denies-either true r s f g = f refl
 denies-either false r s f g = g refl
 

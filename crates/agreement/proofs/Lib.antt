@@ -23,5 +23,6 @@ pub mod Shelves
 pub mod Statements
 pub mod Steps
 pub mod Time
+pub mod Unread
 pub mod Verdicts
 pub mod Votes
