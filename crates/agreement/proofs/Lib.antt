@@ -15,6 +15,7 @@ pub mod OneStep
 pub mod Primed
 pub mod Proposals
 pub mod Quorum
+pub mod Refusals
 pub mod Rounds
 pub mod Sane
 pub mod Sent
