@@ -219,3 +219,83 @@ module _ {L : ℕ} {R : Type 0} (S : ℕ) (k : Kind L R) (w : Setting) (law : La
               by None = denies-err Unread (NoContent 0) (omega arith)
               by (Some y) = denies-ok Unread y
       call sent c = absurd (err-ok (sym r ∙ ap (λ c. outcome k w (e .who) c d) c))
+
+  -- the certificate is of a lawful block that sound seats voted for before
+  candidate : (e : Event) (p : History) (x : Refusal) → Run S k w (e ∷ p) → (f : RefusedFor S k w e p x) → Candidate S k w (f .certificate .block) e p
+  candidate e p x run f =
+      let q = source-voted S k w law e p (f .seat) (shelf S k w (e .who) p) (f .certificate) (run .0) (run .1) (f .fine) (f .source) in
+      record { lawful = q .0; voted = q .1 }
+
+  -- a parent that is there is found
+  parent-test : (e : Event) (p : History) (b : Block R) → Run S k w (e ∷ p) → ParentOn S k w b (shelf S k w (e .who) p) → parentThere (shelf S k w (e .who) p) b ≡ true
+  parent-test e p b run (inl one) = cond-true (eqb (b .height) 1) _ _ (eq-eqb (b .height) 1 one)
+  parent-test e p b run (inr (c, on, rank, high)) = elim (cases-bool (eqb (b .height) 1)) [
+    | inl one ↦ cond-true (eqb (b .height) 1) _ _ one
+    | inr more ↦
+        let bs : List (Block R) = shelf S k w (e .who) p in
+        let f = rank-found (b .parent) bs c on rank in
+        let same : f .0 ≡ c = one-a-rank S k w law (e .who) p (f .0) c (run .0 .driven .at-sound) (run .1) (found-on-shelf (b .parent) bs (f .0) (f .1)) on (find-rank (b .parent) bs (f .0) (f .1) ∙ sym rank) in
+        cond-false (eqb (b .height) 1) _ _ more ∙ ap (oneUp (b .height)) (f .1) ∙ eq-eqb (f .0 .height + 1) (b .height) (ap (λ (y : Block R). y .height + 1) same ∙ high)
+    ]
+
+  parent-there : (e : Event) (p : History) (b : Block R) → parentThere (shelf S k w (e .who) p) b ≡ true → ParentOn S k w b (shelf S k w (e .who) p)
+  parent-there e p b t = elim (parent-from-test (shelf S k w (e .who) p) b t) [
+    | inl one ↦ inl one
+    | inr x ↦ inr (x .0, found-on-shelf (b .parent) (shelf S k w (e .who) p) (x .0) (x .1 .0), find-rank (b .parent) (shelf S k w (e .who) p) (x .0) (x .1 .0), x .1 .1)
+    ]
+
+  pub orphan-because : (e : Event) (p : History) → Run S k w (e ∷ p) → Refused S k w Orphan e p →
+      (b : Block R) × Candidate S k w b e p × (ParentOn S k w b (shelf S k w (e .who) p) → ⊥)
+  orphan-because e p run r =
+      let f = refused-for e p Orphan run (omega arith, omega arith) r in
+      (f .certificate .block, candidate e p Orphan run f, λ up. by f up (refused-there k (f .seat) (shelf S k w (e .who) p) (w .cells (e .who)) (f .certificate .block) Orphan (f .refused)))
+    where
+      by : (f : RefusedFor S k w e p Orphan) → ParentOn S k w (f .certificate .block) (shelf S k w (e .who) p) → RefusedThere k (f .seat) (shelf S k w (e .who) p) (w .cells (e .who)) (f .certificate .block) Orphan → ⊥
+      by f up (inl q) = true-false (sym (parent-test e p (f .certificate .block) run up) ∙ q .1)
+      by f up (inr (inl q)) = let z : _≡_ {A = ℕ} 9 10 = ap numberOf (q .0) in omega arith
+      by f up (inr (inr (inl q))) = let z : _≡_ {A = ℕ} 9 12 = ap numberOf (q .0) in omega arith
+      by f up (inr (inr (inr (inl q)))) = let z : _≡_ {A = ℕ} 9 11 = ap numberOf q in omega arith
+      by f up (inr (inr (inr (inr q)))) = let z : _≡_ {A = ℕ} 9 23 = ap numberOf q in omega arith
+
+  pub rival-because : (e : Event) (p : History) → Run S k w (e ∷ p) → Refused S k w Rival e p →
+      (b : Block R) × (c : Block R) × Candidate S k w b e p × OnShelf c (shelf S k w (e .who) p) × (c .rank ≡ b .rank) × (b ≡ c → ⊥)
+  rival-because e p run r =
+      let f = refused-for e p Rival run (omega arith, omega arith) r in
+      by f (refused-there k (f .seat) (shelf S k w (e .who) p) (w .cells (e .who)) (f .certificate .block) Rival (f .refused))
+    where
+      by : (f : RefusedFor S k w e p Rival) → RefusedThere k (f .seat) (shelf S k w (e .who) p) (w .cells (e .who)) (f .certificate .block) Rival →
+          (b : Block R) × (c : Block R) × Candidate S k w b e p × OnShelf c (shelf S k w (e .who) p) × (c .rank ≡ b .rank) × (b ≡ c → ⊥)
+      by f (inl q) = absurd (let z : _≡_ {A = ℕ} 10 9 = ap numberOf (q .0) in omega arith)
+      by f (inr (inl q)) =
+          let b : Block R = f .certificate .block in
+          let x = q .1 in
+          (b, x .0, candidate e p Rival run f, found-on-shelf (b .rank) (shelf S k w (e .who) p) (x .0) (x .1), find-rank (b .rank) (shelf S k w (e .who) p) (x .0) (x .1),
+            λ same. true-false (sym (subst (λ (y : Block R). sameBlock k (x .0) y ≡ true) (sym same) (same-self k (x .0))) ∙ x .2))
+      by f (inr (inr (inl q))) = absurd (let z : _≡_ {A = ℕ} 10 12 = ap numberOf (q .0) in omega arith)
+      by f (inr (inr (inr (inl q)))) = absurd (let z : _≡_ {A = ℕ} 10 11 = ap numberOf q in omega arith)
+      by f (inr (inr (inr (inr q)))) = absurd (let z : _≡_ {A = ℕ} 10 23 = ap numberOf q in omega arith)
+
+  pub fork-because : (e : Event) (p : History) → Run S k w (e ∷ p) → Refused S k w Fork e p →
+      (b : Block R) × (c : Block R) × Candidate S k w b e p × OnIn S k w (e .who) (b .rank .view) p × (state S k w (e .who) p .committed ≡ Some c) ×
+      ParentOn S k w b (shelf S k w (e .who) p) × (below (c .rank) (b .rank) ≡ true) × OnShelf c (shelf S k w (e .who) p) ×
+      (readBelow (shelf S k w (e .who) p) (parentOf b) (c .height) ≡ Ok (Some c) → ⊥)
+  fork-because e p run r =
+      let f = refused-for e p Fork run (omega arith, omega arith) r in
+      by f (refused-there k (f .seat) (shelf S k w (e .who) p) (w .cells (e .who)) (f .certificate .block) Fork (f .refused))
+    where
+      by : (f : RefusedFor S k w e p Fork) → RefusedThere k (f .seat) (shelf S k w (e .who) p) (w .cells (e .who)) (f .certificate .block) Fork →
+          (b : Block R) × (c : Block R) × Candidate S k w b e p × OnIn S k w (e .who) (b .rank .view) p × (state S k w (e .who) p .committed ≡ Some c) ×
+          ParentOn S k w b (shelf S k w (e .who) p) × (below (c .rank) (b .rank) ≡ true) × OnShelf c (shelf S k w (e .who) p) ×
+          (readBelow (shelf S k w (e .who) p) (parentOf b) (c .height) ≡ Ok (Some c) → ⊥)
+      by f (inl q) = absurd (let z : _≡_ {A = ℕ} 12 9 = ap numberOf (q .0) in omega arith)
+      by f (inr (inl q)) = absurd (let z : _≡_ {A = ℕ} 12 10 = ap numberOf (q .0) in omega arith)
+      by f (inr (inr (inl q))) =
+          let b : Block R = f .certificate .block in
+          let g : ForkThere k (f .seat) (shelf S k w (e .who) p) (w .cells (e .who)) b = q .1 in
+          let at = and-parts (isOn (f .seat .phase)) _ (and-parts (here (f .seat) b) _ (g .commits-it) .0) in
+          let on : OnIn S k w (e .who) (b .rank .view) p = (sym (f .phase) ∙ phase-on (f .seat .phase) (at .0), sym (f .view) ∙ eqb-true (f .seat .view) (b .rank .view) (at .1)) in
+          let committed : state S k w (e .who) p .committed ≡ Some (g .last) = sym (f .committed) ∙ g .committed in
+          let under = committed-below S k w law (e .who) p b (g .last) (run .0 .driven .at-sound) (run .1) on (g .rank-free) committed in
+          (b, g .last, candidate e p Fork run f, on, committed, parent-there e p b (g .parent), under .1, under .0, g .elsewhere)
+      by f (inr (inr (inr (inl q)))) = absurd (let z : _≡_ {A = ℕ} 12 11 = ap numberOf q in omega arith)
+      by f (inr (inr (inr (inr q)))) = absurd (let z : _≡_ {A = ℕ} 12 23 = ap numberOf q in omega arith)
