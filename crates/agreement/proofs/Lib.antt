@@ -4,6 +4,7 @@ pub mod Ballots
 pub mod Basics
 pub mod Carried
 pub mod Cases
+pub mod Clash
 pub mod Commits
 pub mod Entries
 pub mod Facts

@@ -53,7 +53,7 @@ on-phase (Leaving since) e = absurd (let z : _≡_ {A = ℕ} 0 1 = cc in omega a
 leaving-on : (since : ℕ) → _≡_ {A = Phase} On (Leaving since) → ⊥
 leaving-on since e = let z : _≡_ {A = ℕ} 0 1 = cc in omega arith
 
-slot-placed : {S : ℕ} {R : Type 0} (f : Phase) (s : State S R) (b : Block R) → atSlot f s b ≡ true → Placed f (s .view) (s .turn) b
+pub slot-placed : {S : ℕ} {R : Type 0} (f : Phase) (s : State S R) (b : Block R) → atSlot f s b ≡ true → Placed f (s .view) (s .turn) b
 slot-placed On s b e =
     let q = and-parts (eqb (s .view) (b .rank .view)) _ e in
     (sym (eqb-true (s .view) (b .rank .view) (q .0)), sym (eqb-true (s .turn) (b .rank .turn) (q .1)))
