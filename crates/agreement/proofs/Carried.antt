@@ -142,7 +142,7 @@ guarded-passes s room r slip small =
     ]
 
 module _ {L : ℕ} {R : Type 0} (S : ℕ) (k : Kind L R) (w : Setting) where
-  empty-reads : (m : Parts R (List ℕ)) → readParts k S (w .n) [] ≡ Ok m → ⊥
+  pub empty-reads : (m : Parts R (List ℕ)) → readParts k S (w .n) [] ≡ Ok m → ⊥
   unfolding readParts
   empty-reads m e = let z : _≡_ {A = ℕ} 0 1 = cc in omega arith
 

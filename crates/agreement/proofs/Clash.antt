@@ -42,6 +42,7 @@ use Rattle.agreement.specs.Theorem.{ClashUnderSoundLeader}
 use Rattle.agreement.proofs.Acceptances.{after-call}
 use Rattle.agreement.proofs.Along.{Ends, Handed, Kept, desk-other, handed-good, keep-call}
 use Rattle.agreement.proofs.Basics.{err-ok, none-some, ok-same, some-same, true-false}
+use Rattle.agreement.proofs.Carried.{empty-reads}
 use Rattle.agreement.proofs.Cases.{proposal-cases, proposed-cases}
 use Rattle.agreement.proofs.Facts.{shelf, stage, state}
 use Rattle.agreement.proofs.Keeps.{Keeps, proposed-leaves, shelve-cases}
@@ -229,3 +230,107 @@ module _ {L : ℕ} {R : Type 0} (S : ℕ) (k : Kind L R) (w : Setting) (law : La
       same-own (Some (write (Blame i view seal))) m n = proposal-tells k a b (sym m ∙ n)
       same-own (Some (write (Certified c))) m n = absurd m
       same-own (Some (write (Notice view mask seals))) m n = absurd m
+
+  -- what a seat that answers clash has as its note: another block of the same rank
+  pub record Clashing (e : Event) (p : History) (b : Block R) : Type 0 where
+    pub note : Block R
+    pub lawful : LawfulBlock k note
+    pub rank : note .rank ≡ b .rank
+    pub said : Sound w (w .leader (note .rank .view)) → Said S k w (w .leader (note .rank .view)) (proposalStatement k note) p
+    pub other : sameBlock k note b ≡ false
+
+  one-slot : (f : Phase) (view turn : ℕ) (a b : Block R) → Placed f view turn a → Placed f view turn b → a .rank ≡ b .rank
+  one-slot On view turn a b (u, v) (x, y) = λ i. record { view = (u ∙ sym x) i; turn = (v ∙ sym y) i }
+  one-slot (Leaving since) view turn a b (u, v) (x, y) = λ i. record { view = (u ∙ sym x) i; turn = (v ∙ sym y) i }
+
+  clashing : (e : Event) (p : History) (s : State S R) (bs : List (Block R)) (b : Block R) (note : Note R) → NoteInv S k w (e .who) p s bs → slotOpen s b ≡ true → s .round .note ≡ Some note → sameBlock k (note .block) b ≡ false → Clashing e p b
+  clashing e p s bs b note q slot n differs = record {
+    note = note .block;
+    lawful = q .lawful (note .block) (ap blockOf n);
+    rank = one-slot (s .phase) (s .view) (s .turn) (note .block) b (q .placed (note .block) (ap blockOf n)) (slot-placed (s .phase) s b (and-parts (not (s .spoiled)) _ slot .1));
+    said = q .proposed (note .block) (ap blockOf n);
+    other = differs;
+  }
+
+  proposed-clash : (e : Event) (p : History) (b : Block R) (o : Outcome S R) → NoteInv S k w (e .who) p (o .state) (o .blocks) → (o .word ≡ Clash → ⊥) → proposed k (w .terms (e .who)) b o .word ≡ Clash → Clashing e p b
+  proposed-clash e p b o q calm =
+      proposed-cases k (w .terms (e .who)) (λ (x : Outcome S R). x .word ≡ Clash → Clashing e p b) b o
+      (λ _ z. absurd (calm z))
+      (λ note rest slot fit word z. elim word [
+        | inl t ↦ absurd (noted-clash (sym t ∙ z))
+        | inr t ↦ absurd (calm (sym t ∙ z))
+      ])
+      (λ note slot fit able fresh z. absurd (accepted-clash z))
+      (λ note slot n differs z. clashing e p (o .state) (o .blocks) b note q slot n differs)
+    where
+      noted-clash : _≡_ {A = Word} Noted Clash → ⊥
+      noted-clash z = let y : _≡_ {A = ℕ} 0 1 = cc in omega arith
+
+      accepted-clash : _≡_ {A = Word} Accepted Clash → ⊥
+      accepted-clash z = let y : _≡_ {A = ℕ} 0 1 = cc in omega arith
+
+  clash-so : (e : Event) (p : History) (b : Block R) (seal : List ℕ) (parent : Option (Certificate R (List ℕ))) (o : Outcome S R) → Run S k w (e ∷ p) →
+      readParts k S (w .n) (inboxOf (e .what)) ≡ Ok (Proposal b seal parent) → result S k w e p ≡ Ok o → o .word ≡ Clash → Handed S k w e (Proposal b seal parent) × Clashing e p b
+  clash-so e p b seal parent o run reads r word = call (e .what) refl
+    where
+      d : Desk S R
+      d = desk S k w (e .who) p
+
+      t : Terms
+      t = w .terms (e .who)
+
+      fine : NoteInv S k w (e .who) p (d .state) (d .blocks)
+      fine = note-fine S k w law (e .who) p (run .0 .driven .at-sound) (run .1)
+
+      notes : Kept S k w e p (NoteInv S k w (e .who) p)
+      notes = note-kept S k w law e p p (λ i st q. q) (run .0)
+
+      idle-clash : _≡_ {A = Word} Idle Clash → ⊥
+      idle-clash z = let y : _≡_ {A = ℕ} 0 1 = cc in omega arith
+
+      certified-clash : _≡_ {A = Word} SaysCertified Clash → ⊥
+      certified-clash z = let y : _≡_ {A = ℕ} 0 1 = cc in omega arith
+
+      handed : Handed S k w e (Proposal b seal parent) → handParts k t (d .state) (d .blocks) (w .cells (e .who)) (Proposal b seal parent) ≡ Ok o → Clashing e p b
+      handed got q =
+          proposal-cases k t (λ (x : Outcome S R). result S k w e p ≡ Ok x → x .word ≡ Clash → Clashing e p b) (d .state) (d .blocks) (w .cells (e .who)) o b parent q
+          (λ none ends z. proposed-clash e p b (idle (d .state) (d .blocks)) fine idle-clash z)
+          (λ c some j ends z. proposed-clash e p b (idle (d .state) (d .blocks)) fine idle-clash z)
+          (λ c some j ends z.
+            let x : Outcome S R = taken (d .state) (d .blocks) c (write (Certified c)) New in
+            let l = proposed-leaves k t b x in
+            proposed-clash e p b x
+            (notes .shelves (d .state) c (inr (inl (b, seal, subst (λ y. Handed S k w e (Proposal b seal y)) some got))) j (proposed k t b x) ends (l .0) (l .1) fine) certified-clash z)
+          r word
+
+      silent : inboxOf (e .what) ≡ [] → Handed S k w e (Proposal b seal parent) × Clashing e p b
+      silent empty = absurd (empty-reads S k w (Proposal b seal parent) (ap (λ (xs : List ℕ). readParts k S (w .n) xs) (sym empty) ∙ reads))
+
+      call : (c : Call) → e .what ≡ c → Handed S k w e (Proposal b seal parent) × Clashing e p b
+      call (hand inbox room) c =
+          let h = handed-good S k w law e p inbox room o (run .0) c r in
+          let same : h .0 ≡ Proposal b seal parent = ok-same (sym (h .1 .0 .0) ∙ reads) in
+          let got : Handed S k w e (Proposal b seal parent) = subst (λ (m : Parts R (List ℕ)). Handed S k w e m) same (h .1) in
+          (got, handed got (subst (λ (m : Parts R (List ℕ)). handParts k t (d .state) (d .blocks) (w .cells (e .who)) m ≡ Ok o) same (h .2)))
+      call (tick room) c = silent (ap inboxOf c)
+      call (offer content room) c = silent (ap inboxOf c)
+      call sent c = silent (ap inboxOf c)
+
+  no-clash : (e : Event) (p : History) → Run S k w (e ∷ p) → ClashUnderSoundLeader S k w e p → ⊥
+  no-clash e p run (b, x) =
+      let o = x .1 .1 .1 .1 in
+      let f = clash-so e p b (x .0) (x .1 .0) (o .0) run (x .1 .1 .0) (o .1) (o .2) in
+      let sound : Sound w (w .leader (b .rank .view)) = x .1 .1 .1 .0 in
+      let c = f .1 in
+      let view : c .note .rank .view ≡ b .rank .view = ap (λ (r : Rank). r .view) (c .rank) in
+      let lead : w .leader (c .note .rank .view) ≡ w .leader (b .rank .view) = ap (w .leader) view in
+      let said-note : Said S k w (w .leader (b .rank .view)) (proposalStatement k (c .note)) p =
+          subst (λ (j : ℕ). Said S k w j (proposalStatement k (c .note)) p) lead (c .said (subst (λ (j : ℕ). Sound w j) (sym lead) sound)) in
+      let said-new : Said S k w (w .leader (b .rank .view)) (proposalStatement k b) p = proposal-said S k w e p b (x .0) (x .1 .0) (run .0) (f .0) sound in
+      let same : c .note ≡ b = one-proposal p (w .leader (b .rank .view)) (c .note) b (run .1) (c .lawful) (f .0 .1 .0) (c .rank) said-note said-new in
+      true-false (sym (subst (λ (y : Block R). sameBlock k (c .note) y ≡ true) same (same-self k (c .note))) ∙ c .other)
+
+  pub no-clash-under-a-sound-leader : (h : History) → Run S k w h → Once (ClashUnderSoundLeader S k w) h → ⊥
+  no-clash-under-a-sound-leader [] run x = x
+  no-clash-under-a-sound-leader (e ∷ p) run (inl x) = no-clash e p run x
+  no-clash-under-a-sound-leader (e ∷ p) run (inr x) = no-clash-under-a-sound-leader p (run .1) x
