@@ -67,7 +67,7 @@ same-blocks {R} k x y lx ly e =
     let b : x .height ≡ y .height = eqb-true (x .height) (y .height) (q .0) in
     let c : x .parent ≡ y .parent = same-ranks (x .parent) (y .parent) (r .0) in
     let f : Some (x .content) ≡ Some (y .content) =
-        sym (lx .content) ∙ (ap (k .reads) (same-bytes (k .shown (x .content)) (k .shown (y .content)) (r .1)) ∙ ly .content) in
+    sym (lx .content) ∙ (ap (k .reads) (same-bytes (k .shown (x .content)) (k .shown (y .content)) (r .1)) ∙ ly .content) in
     let d : x .content ≡ y .content = some-same (x .content) (y .content) f in
     λ i. record { rank = a i; height = b i; parent = c i; content = d i }
   where
@@ -162,10 +162,11 @@ module _ {L : ℕ} {R : Type 0} (S : ℕ) (k : Kind L R) (w : Setting) where
         let n : ℕ = w .terms i .seats .n in
         let same : w .n ≡ n = sym (lawful .shares-n i (driven .at-sound)) in
         let reads : readParts k S n inbox ≡ Ok m = subst (λ n. readParts k S n inbox ≡ Ok m) same (good .0) in
-        let sealed : judge (w .accepts) (asked k S n (w .leader) m) ≡ Ok tt = subst (λ n. judge (w .accepts) (asked k S n (w .leader) m) ≡ Ok tt) same (good .1) in
-        (guarded-passes (state S k w i p) room _ (driven .never-slip) (driven .never-small) ∙
-        ap (λ r. next r (handParts k (w .terms i) (state S k w i p) (shelf S k w i p) (w .cells i))) (opened-here n inbox m reads sealed),
-        desk-mine S k w i (event i (hand inbox room)) p refl)
+        let sealed : judge (w .accepts) (asked k S n (w .leader) m) ≡ Ok tt = subst (λ n. judge (w .accepts) (asked k S n (w .leader) m) ≡ Ok tt) same (good .1) in (
+          guarded-passes (state S k w i p) room _ (driven .never-slip) (driven .never-small) ∙
+              ap (λ r. next r (handParts k (w .terms i) (state S k w i p) (shelf S k w i p) (w .cells i))) (opened-here n inbox m reads sealed),
+          desk-mine S k w i (event i (hand inbox room)) p refl,
+        )
     good-step i (tick room) p m driven good = absurd (empty-reads m (good .0))
     good-step i (offer content room) p m driven good = absurd (empty-reads m (good .0))
     good-step i sent p m driven good = absurd (empty-reads m (good .0))
@@ -210,12 +211,12 @@ module _ {L : ℕ} {R : Type 0} (S : ℕ) (k : Kind L R) (w : Setting) where
         let l = lawful-from-read k S (w .n) (inboxOf (e .what)) (Certified c) (run .0 .driven .in-bytes) (good .0) in
         let refused : (x : Refusal) → judgeIn k s bs cells (c .block) ≡ Err x → Refused S k w x e p = λ x f. g .0 ∙ ap (carried (taken s bs c relay)) f in
         let d : Denies (judgeIn k s bs cells (c .block)) (λ _. ⊥) = λ x f.
-            elim (judge-denies k s bs cells (c .block) (o .grown) x f) [
-              | inl q ↦ orphan (subst (λ y. Refused S k w y e p) q (refused x f))
-              | inr (inl q) ↦ rival (subst (λ y. Refused S k w y e p) q (refused x f))
-              | inr (inr (inl q)) ↦ run .0 .driven .never-full (subst (λ y. Refused S k w y e p) q (refused x f))
-              | inr (inr (inr q)) ↦ fork (subst (λ y. Refused S k w y e p) q (refused x f))
-            ] in
+        elim (judge-denies k s bs cells (c .block) (o .grown) x f) [
+          | inl q ↦ orphan (subst (λ y. Refused S k w y e p) q (refused x f))
+          | inr (inl q) ↦ rival (subst (λ y. Refused S k w y e p) q (refused x f))
+          | inr (inr (inl q)) ↦ run .0 .driven .never-full (subst (λ y. Refused S k w y e p) q (refused x f))
+          | inr (inr (inr q)) ↦ fork (subst (λ y. Refused S k w y e p) q (refused x f))
+        ] in
         subst (λ (d : Desk S R). OnShelf (c .block) (d .blocks)) (sym (g .1))
         (subst (λ r. OnShelf (c .block) (blocksAfter bs r)) (sym (g .0))
         (shelved-after s bs c (judgeIn k s bs cells (c .block)) (o .grown) (o .lawful) (l .0) (judged k s bs cells (c .block)) d))

@@ -50,13 +50,13 @@ module _ {L : ℕ} {R : Type 0} (S : ℕ) (k : Kind L R) (w : Setting) where
         CoreSane k (w .delta) (core (state S k w (e .who) p)) (shelf S k w (e .who) p) → Step S k w e p d → CoreSane k (w .delta) (core (d .state)) (d .blocks)
     core-step e p d driven h (rests c b) =
         subst (CoreSane k (w .delta) (core (d .state))) (sym b) (subst (λ x. CoreSane k (w .delta) x (shelf S k w (e .who) p)) (sym c) h)
-    core-step e p d driven h (ticks c b short) =
+    core-step e p d driven h (ticks call c b short) =
         let same : w .terms (e .who) .delta ≡ w .delta = lawful .shares-delta (e .who) (driven .at-sound) in
         let n : (since : ℕ) → state S k w (e .who) p .phase ≡ Leaving since → (state S k w (e .who) p .now + 1) - since < 2 * w .delta + 1 =
-            λ since f. subst (λ x. (state S k w (e .who) p .now + 1) - since < 2 * x + 1) same (short since f) in
+        λ since f. subst (λ x. (state S k w (e .who) p .now + 1) - since < 2 * x + 1) same (short since f) in
         let g = sane-later k (w .delta) (core (state S k w (e .who) p)) (shelf S k w (e .who) p) n h in
         subst (CoreSane k (w .delta) (core (d .state))) (sym b) (subst (λ x. CoreSane k (w .delta) x (shelf S k w (e .who) p)) (sym c) g)
-    core-step e p d driven h (enters since f long c b) =
+    core-step e p d driven h (enters call since f long c b) =
         let g = sane-arrived k (w .delta) since (min (state S k w (e .who) p .view + 1) 65535) (core (state S k w (e .who) p)) (shelf S k w (e .who) p) (omega arith) h in
         subst (CoreSane k (w .delta) (core (d .state))) (sym b) (subst (λ x. CoreSane k (w .delta) x (shelf S k w (e .who) p)) (sym c) g)
     core-step e p d driven h (takes c good follows co b took sends) =

@@ -75,8 +75,8 @@ module _ {L S : ℕ} {R : Type 0} (k : Kind L R) where
       let v : State S R = turnRises (min (s .turn + 1) 4294967295) t in
       let u : State S R = cond (here s (c .block)) v t in
       let g : RoundSane u =
-          cond-both (here s (c .block)) v t RoundSane
-          (λ e. (tt, rows-on (s .phase) noSeals (s .blames) (and-parts (isOn (s .phase)) _ e .0))) (λ _. h) in
+      cond-both (here s (c .block)) v t RoundSane
+      (λ e. (tt, rows-on (s .phase) noSeals (s .blames) (and-parts (isOn (s .phase)) _ e .0))) (λ _. h) in
       cond-both (commits s (c .block)) (withCommitted (c .block) u) u RoundSane (λ _. g) (λ _. g)
 
   taken-sane : (s : State S R) (bs : List (Block R)) (c : Certificate R (List ℕ)) (sending : Sending R) (v : Verdict) → RoundSane s → Sane (taken s bs c sending v)

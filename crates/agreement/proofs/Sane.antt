@@ -96,9 +96,10 @@ module _ {L : ℕ} {R : Type 0} (k : Kind L R) where
   -- entering a view: one above the highest turn
   turns-top : (v : ℕ) (bs : List (Block R)) (o : Option ℕ) → Grown bs → AllLawful k bs → TopOf v bs o → Turns v (turnAfter o) bs
   turns-top v bs None g l h = ((λ t z. absurd (omega arith)), λ b on e. absurd (h b on e))
-  turns-top v bs (Some u) g l h =
-      ((λ t z. let e : u ≡ t + (u - t) = omega arith in turns-down k bs g l v (u - t) t (subst (λ y. TurnOn v y bs) e (h .0))),
-      λ b on e. let z : b .rank .turn ≤ u = h .1 b on e in omega arith)
+  turns-top v bs (Some u) g l h = (
+    (λ t z. let e : u ≡ t + (u - t) = omega arith in turns-down k bs g l v (u - t) t (subst (λ y. TurnOn v y bs) e (h .0))),
+    λ b on e. let z : b .rank .turn ≤ u = h .1 b on e in omega arith,
+  )
 
   pub sane-arrived : (delta since v : ℕ) (x : Core R) (bs : List (Block R)) → v ≤ 65535 → CoreSane delta x bs →
       CoreSane delta (arrived v (turnAfter (topTurn v bs)) x) bs
@@ -124,6 +125,7 @@ module _ {L : ℕ} {R : Type 0} (k : Kind L R) where
     where
       same-parts : (p q : Rank) → p .view ≡ q .view → p .turn ≡ q .turn → p ≡ q
       same-parts p q f g = λ i. record { view = f i; turn = g i }
+
       not-past : (t : ℕ) → t ≡ b .rank .turn → (b .height ≡ 1) ⊎ ((p : Block R) × Parent bs b p) → t ≤ turn
       not-past zero q p = omega arith
       not-past (suc t) q (inl one) =
@@ -178,34 +180,39 @@ module _ {L : ℕ} {R : Type 0} (k : Kind L R) where
   turn-kept v t bs b h = (h .0, on-append (h .0) bs (b ∷ []) (h .1), h .2, h .3)
 
   turns-other : (v turn : ℕ) (bs : List (Block R)) (b : Block R) → (v ≡ b .rank .view → ⊥) → Turns v turn bs → Turns v turn (bs ++ b ∷ [])
-  turns-other v turn bs b other h =
-      ((λ t z. turn-kept v t bs b (h .0 t z)), λ x on e.
-      elim (on-pushed x b bs on) [ inl old ↦ h .1 x old e | inr same ↦ absurd (other (sym e ∙ ap (λ (y : Block R). y .rank .view) (sym same))) ])
+  turns-other v turn bs b other h = (
+    (λ t z. turn-kept v t bs b (h .0 t z)),
+    λ x on e.
+        elim (on-pushed x b bs on) [ inl old ↦ h .1 x old e | inr same ↦ absurd (other (sym e ∙ ap (λ (y : Block R). y .rank .view) (sym same))) ],
+  )
 
   turns-next : (v turn : ℕ) (bs : List (Block R)) (b : Block R) → b .rank .view ≡ v → b .rank .turn ≡ turn → Turns v turn bs → Turns v (turn + 1) (bs ++ b ∷ [])
-  turns-next v turn bs b e q h =
-      ((λ t z.
-      elim (cases-lt t turn) [
-        | inl low ↦ turn-kept v t bs b (h .0 t low)
-        | inr high ↦ (let s : turn ≡ t = omega arith in (b, on-last b bs, e, q ∙ s))
-      ]),
-      λ x on f.
-      elim (on-pushed x b bs on) [
-        | inl old ↦ (let l : x .rank .turn < turn = h .1 x old f in omega arith)
-        | inr same ↦ (let l : b .rank .turn ≡ x .rank .turn = ap (λ (y : Block R). y .rank .turn) same in omega arith)
-      ])
+  turns-next v turn bs b e q h = (
+    (λ t z.
+        elim (cases-lt t turn) [
+          | inl low ↦ turn-kept v t bs b (h .0 t low)
+          | inr high ↦ (let s : turn ≡ t = omega arith in (b, on-last b bs, e, q ∙ s))
+        ]),
+    λ x on f.
+        elim (on-pushed x b bs on) [
+          | inl old ↦ (let l : x .rank .turn < turn = h .1 x old f in omega arith)
+          | inr same ↦ (let l : b .rank .turn ≡ x .rank .turn = ap (λ (y : Block R). y .rank .turn) same in omega arith)
+        ],
+  )
 
   phase-shelved : (delta : ℕ) (ph : Phase) (now view turn : ℕ) (bs : List (Block R)) (b : Block R) → Grown bs → LawfulBlock k b → MayFollow bs b →
       PhaseFits delta ph now view turn bs → PhaseFits delta ph now view (cond (isOn ph && eqb view (b .rank .view)) (min (turn + 1) 4294967295) turn) (bs ++ b ∷ [])
-  phase-shelved delta On now view turn bs b g l m h =
-      (h .0, cond-both (eqb view (b .rank .view)) (min (turn + 1) 4294967295) turn (λ t. Turns view t (bs ++ b ∷ []))
-      (λ t.
-      let e : b .rank .view ≡ view = sym (eqb-true view (b .rank .view) t) in
-      let q : b .rank .turn ≡ turn = new-turn view turn bs b g l m (h .1) e in
-      let small : b .rank .turn < 2 ^ 16 = l .turn in
-      let z : turn + 1 ≡ min (turn + 1) 4294967295 = omega arith in
-      subst (λ t. Turns view t (bs ++ b ∷ [])) z (turns-next view turn bs b e q (h .1)))
-      (λ f. turns-other view turn bs b (eqb-false view (b .rank .view) f) (h .1)))
+  phase-shelved delta On now view turn bs b g l m h = (
+    h .0,
+    cond-both (eqb view (b .rank .view)) (min (turn + 1) 4294967295) turn (λ t. Turns view t (bs ++ b ∷ []))
+        (λ t.
+        let e : b .rank .view ≡ view = sym (eqb-true view (b .rank .view) t) in
+        let q : b .rank .turn ≡ turn = new-turn view turn bs b g l m (h .1) e in
+        let small : b .rank .turn < 2 ^ 16 = l .turn in
+        let z : turn + 1 ≡ min (turn + 1) 4294967295 = omega arith in
+        subst (λ t. Turns view t (bs ++ b ∷ [])) z (turns-next view turn bs b e q (h .1)))
+        (λ f. turns-other view turn bs b (eqb-false view (b .rank .view) f) (h .1)),
+  )
   phase-shelved delta (Leaving since) now view turn bs b g l m h = h
 
   pub sane-shelved : (delta : ℕ) (c : Certificate R (List ℕ)) (spoiled : Bool) (x : Core R) (bs : List (Block R)) → LawfulBlock k (c .block) →

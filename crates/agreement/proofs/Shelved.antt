@@ -29,8 +29,8 @@ use Rattle.agreement.proofs.Time.{kept-later, was-more}
 module _ {L : ℕ} {R : Type 0} (S : ℕ) (k : Kind L R) (w : Setting) where
   grows-step : (e : Event) (p : History) (d : Desk S R) (b : Block R) → Step S k w e p d → OnShelf b (shelf S k w (e .who) p) → OnShelf b (d .blocks)
   grows-step e p d b (rests c f) h = subst (OnShelf b) (sym f) h
-  grows-step e p d b (ticks c f short) h = subst (OnShelf b) (sym f) h
-  grows-step e p d b (enters since g long c f) h = subst (OnShelf b) (sym f) h
+  grows-step e p d b (ticks call c f short) h = subst (OnShelf b) (sym f) h
+  grows-step e p d b (enters call since g long c f) h = subst (OnShelf b) (sym f) h
   grows-step e p d b (takes c good follows co f took sends) h = subst (OnShelf b) (sym f) (on-append b (shelf S k w (e .who) p) (c .block ∷ []) h)
   grows-step e p d b (departs v small leads c f sends) h = subst (OnShelf b) (sym f) h
 
@@ -87,8 +87,8 @@ module _ {L : ℕ} {R : Type 0} (S : ℕ) (k : Kind L R) (w : Setting) where
     sent-step : (e : Event) (p : History) (b : Block R) → Driven S k w e p → Step S k w e p (desk S k w (e .who) (e ∷ p)) →
         (OnShelf b (shelf S k w (e .who) p) → Was (Sent (e .who) b) p) → OnShelf b (shelf S k w (e .who) (e ∷ p)) → Was (Sent (e .who) b) (e ∷ p)
     sent-step e p b driven (rests c f) old on = was-more _ e p (old (subst (OnShelf b) f on))
-    sent-step e p b driven (ticks c f short) old on = was-more _ e p (old (subst (OnShelf b) f on))
-    sent-step e p b driven (enters since g long c f) old on = was-more _ e p (old (subst (OnShelf b) f on))
+    sent-step e p b driven (ticks call c f short) old on = was-more _ e p (old (subst (OnShelf b) f on))
+    sent-step e p b driven (enters call since g long c f) old on = was-more _ e p (old (subst (OnShelf b) f on))
     sent-step e p b driven (departs v small leads c f sends) old on = was-more _ e p (old (subst (OnShelf b) f on))
     sent-step e p b driven (takes c good follows co f took sends) old on =
         elim (on-pushed b (c .block) (shelf S k w (e .who) p) (subst (OnShelf b) f on)) [

@@ -76,7 +76,7 @@ module _ {R : Type 0} where
   find-grown before [] b g h = absurd h
   find-grown before (x ∷ bs) b g (inl e) =
       let f : find (x .rank) (before ++ (x ∷ bs)) ≡ Some x =
-          find-append-none (x .rank) before (x ∷ bs) (g .0 .0) ∙ find-here (x .rank) x bs (rank-itself (x .rank)) in
+      find-append-none (x .rank) before (x ∷ bs) (g .0 .0) ∙ find-here (x .rank) x bs (rank-itself (x .rank)) in
       subst (λ (y : Block R). find (y .rank) (before ++ (x ∷ bs)) ≡ Some y) e f
   find-grown before (x ∷ bs) b g (inr h) =
       subst (λ xs. find (b .rank) xs ≡ Some b) (append-assoc before (x ∷ []) bs) (find-grown (before ++ x ∷ []) bs b (g .1) h)
@@ -168,12 +168,14 @@ module _ {R : Type 0} where
   top-here : (v : ℕ) (x : Block R) (bs : List (Block R)) (o : Option ℕ) → x .rank .view ≡ v → TopOf v bs o → TopOf v (x ∷ bs) (higher (x .rank .turn) o)
   top-here v x bs None e h =
       ((x, inl refl, e, refl), λ b on q. elim on [ inl s ↦ (let l : x .rank .turn ≡ b .rank .turn = ap (λ (y : Block R). y .rank .turn) s in omega arith) | inr r ↦ absurd (h b r q) ])
-  top-here v x bs (Some t) e h =
-      (greater (max (x .rank .turn) t) refl, λ b on q.
-      elim on [
-        | inl s ↦ (let l : x .rank .turn ≡ b .rank .turn = ap (λ (y : Block R). y .rank .turn) s in omega arith)
-        | inr r ↦ (let l : b .rank .turn ≤ t = h .1 b r q in omega arith)
-      ])
+  top-here v x bs (Some t) e h = (
+    greater (max (x .rank .turn) t) refl,
+    λ b on q.
+        elim on [
+          | inl s ↦ (let l : x .rank .turn ≡ b .rank .turn = ap (λ (y : Block R). y .rank .turn) s in omega arith)
+          | inr r ↦ (let l : b .rank .turn ≤ t = h .1 b r q in omega arith)
+        ],
+  )
     where
       greater : (m : ℕ) → m ≡ max (x .rank .turn) t → TurnOn v m (x ∷ bs)
       greater m q =
@@ -185,9 +187,11 @@ module _ {R : Type 0} where
   top-past : (v : ℕ) (x : Block R) (bs : List (Block R)) (o : Option ℕ) → (x .rank .view ≡ v → ⊥) → TopOf v bs o → TopOf v (x ∷ bs) o
   top-past v x bs None e h = λ b on q.
       elim on [ inl s ↦ e (ap (λ (y : Block R). y .rank .view) s ∙ q) | inr r ↦ h b r q ]
-  top-past v x bs (Some t) e h =
-      (turn-more v t x bs (h .0), λ b on q.
-      elim on [ inl s ↦ absurd (e (ap (λ (y : Block R). y .rank .view) s ∙ q)) | inr r ↦ h .1 b r q ])
+  top-past v x bs (Some t) e h = (
+    turn-more v t x bs (h .0),
+    λ b on q.
+        elim on [ inl s ↦ absurd (e (ap (λ (y : Block R). y .rank .view) s ∙ q)) | inr r ↦ h .1 b r q ],
+  )
 
   pub top-of : (v : ℕ) (bs : List (Block R)) → TopOf v bs (topTurn v bs)
   unfolding topTurn

@@ -40,7 +40,7 @@ use Rattle.agreement.specs.Committed.{Takes}
 use Rattle.agreement.specs.History.{Call, Desk, Did, Event, History, Is, Sends, after, desk, hand, inboxOf, offer, outcome, result, sent, tick}
 use Rattle.agreement.specs.Run.{Driven}
 use Rattle.agreement.specs.Setting.{Lawful, Setting, Sound}
-use Rattle.agreement.proofs.Facts.{AsCertificate, AsNotice, SendsSome, shelf, state}
+use Rattle.agreement.proofs.Facts.{AsCertificate, AsNotice, SendsSome, Ticks, shelf, state}
 use Rattle.agreement.proofs.Messages.{as-certificate-relayed, as-certificate-written, as-notice-relayed, as-notice-written}
 use Rattle.agreement.proofs.OneStep.{CertificateSent, Core, Effect, NoticeSent, TickEffect, arrived, arrives, core, goes, later, leaves, left, message-effect, offer-effect, shelved, shelves, stays, tick-effect}
 
@@ -81,14 +81,14 @@ module _ {L : ℕ} {R : Type 0} (S : ℕ) (k : Kind L R) (w : Setting) where
   -- premises
   pub data Step (e : Event) (p : History) (d : Desk S R) : Type 0 where
     rests : core (d .state) ≡ core (state S k w (e .who) p) → d .blocks ≡ shelf S k w (e .who) p → Step e p d
-    ticks : core (d .state) ≡ later (core (state S k w (e .who) p)) → d .blocks ≡ shelf S k w (e .who) p →
+    ticks : Ticks (e .what) → core (d .state) ≡ later (core (state S k w (e .who) p)) → d .blocks ≡ shelf S k w (e .who) p →
         ((since : ℕ) → state S k w (e .who) p .phase ≡ Leaving since →
         (state S k w (e .who) p .now + 1) - since < 2 * w .terms (e .who) .delta + 1) → Step e p d
-    enters : (since : ℕ) → state S k w (e .who) p .phase ≡ Leaving since →
+    enters : Ticks (e .what) → (since : ℕ) → state S k w (e .who) p .phase ≡ Leaving since →
         2 * w .terms (e .who) .delta + 1 ≤ (state S k w (e .who) p .now + 1) - since →
         core (d .state) ≡
-            arrived (min (state S k w (e .who) p .view + 1) lastView)
-            (turnAfter (topTurn (min (state S k w (e .who) p .view + 1) lastView) (shelf S k w (e .who) p))) (core (state S k w (e .who) p)) →
+        arrived (min (state S k w (e .who) p .view + 1) lastView)
+        (turnAfter (topTurn (min (state S k w (e .who) p .view + 1) lastView) (shelf S k w (e .who) p))) (core (state S k w (e .who) p)) →
         d .blocks ≡ shelf S k w (e .who) p → Step e p d
     takes : (c : Certificate R (List ℕ)) → (Lawful w → Driven S k w e p → LawfulBlock k (c .block)) →
         MayFollow (shelf S k w (e .who) p) (c .block) →
@@ -126,22 +126,30 @@ module _ {L : ℕ} {R : Type 0} (S : ℕ) (k : Kind L R) (w : Setting) where
 
     certificate-sends : (c : Certificate R (List ℕ)) → (Lawful w → Driven S k w this p → LawfulBlock k (c .block)) →
         CertificateSent m c (o .sends .certificate) → Lawful w → Driven S k w this p → SendsSome S k w (AsCertificate S k w (c .block)) this p
-    certificate-sends c lawful (inl x) l d =
-        (messageBytes k (Certified c), (o, did, inl (sent-as inbox (o .sends .certificate) (write (Certified c)) x)),
-        as-certificate-written S k w c (lawful l d))
-    certificate-sends c lawful (inr x) l d =
-        (inbox, (o, did, inl (sent-as inbox (o .sends .certificate) relay (x .0))),
-        as-certificate-relayed S k w inbox c (reads-here i inbox (Certified c) l (d .at-sound) (reads ∙ ap Ok (x .1))))
+    certificate-sends c lawful (inl x) l d = (
+      messageBytes k (Certified c),
+      (o, did, inl (sent-as inbox (o .sends .certificate) (write (Certified c)) x)),
+      as-certificate-written S k w c (lawful l d),
+    )
+    certificate-sends c lawful (inr x) l d = (
+      inbox,
+      (o, did, inl (sent-as inbox (o .sends .certificate) relay (x .0))),
+      as-certificate-relayed S k w inbox c (reads-here i inbox (Certified c) l (d .at-sound) (reads ∙ ap Ok (x .1))),
+    )
 
     notice-sends : (v mask : ℕ) (seals : List ℕ) → (Lawful w → Driven S k w this p → v < 65535) →
         ((o .sends .message ≡ Some (write (Notice v mask seals))) ⊎ ((o .sends .message ≡ Some relay) × (m ≡ Notice v mask seals))) →
         Lawful w → Driven S k w this p → SendsSome S k w (AsNotice S k w v) this p
-    notice-sends v mask seals small (inl x) l d =
-        (messageBytes k (Notice v mask seals), (o, did, inr (inl (sent-as inbox (o .sends .message) (write (Notice v mask seals)) x))),
-        as-notice-written S k w v mask seals (small l d))
-    notice-sends v mask seals small (inr x) l d =
-        (inbox, (o, did, inr (inl (sent-as inbox (o .sends .message) relay (x .0)))),
-        as-notice-relayed S k w inbox v mask seals (reads-here i inbox (Notice v mask seals) l (d .at-sound) (reads ∙ ap Ok (x .1))))
+    notice-sends v mask seals small (inl x) l d = (
+      messageBytes k (Notice v mask seals),
+      (o, did, inr (inl (sent-as inbox (o .sends .message) (write (Notice v mask seals)) x))),
+      as-notice-written S k w v mask seals (small l d),
+    )
+    notice-sends v mask seals small (inr x) l d = (
+      inbox,
+      (o, did, inr (inl (sent-as inbox (o .sends .message) relay (x .0)))),
+      as-notice-relayed S k w inbox v mask seals (reads-here i inbox (Notice v mask seals) l (d .at-sound) (reads ∙ ap Ok (x .1))),
+    )
 
     lawful-here : Driven S k w this p → LawfulParts k S (w .terms i .seats .n) m
     lawful-here d = lawful-from-read k S (w .terms i .seats .n) inbox m (d .in-bytes) reads
@@ -180,8 +188,8 @@ module _ {L : ℕ} {R : Type 0} (S : ℕ) (k : Kind L R) (w : Setting) where
       gives-ok (λ o. Step this p (done o)) t (tick-step t (tick-effect (w .terms i) (d .state) (d .blocks))))))
     where
       tick-step : (t : Outcome S R) → TickEffect (w .terms i) (state S k w i p) (shelf S k w i p) t → Step (event i (tick room)) p (done t)
-      tick-step t (goes c b short) = ticks c b short
-      tick-step t (arrives since ph long c b) = enters since ph long c b
+      tick-step t (goes c b short) = ticks tt c b short
+      tick-step t (arrives since ph long c b) = enters tt since ph long c b
   step-of i (offer content room) p =
       let d : Desk S R = desk S k w i p in
       let this : Event = event i (offer content room) in
