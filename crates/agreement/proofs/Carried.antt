@@ -1,13 +1,13 @@
 -- A message with good seals is carried out: a notice moves the seat on, a certificate's block is on its shelf.
-use Prim.Native.Nat.{ℕ, zero, suc, _+_, _-_, _*_, _≤_, _<_}
+use Prim.Native.Nat.{ℕ, _+_, _*_, _≤_, _<_}
 use mathlib.Core.Path.{_≡_, refl, sym, ap, subst, _∙_}
-use mathlib.Core.Bool.{Bool, true, false, cond, not, _&&_, _||_}
-use mathlib.Core.List.{List, [], _∷_, _++_}
+use mathlib.Core.Bool.{Bool, true, false, cond, _&&_, _||_}
+use mathlib.Core.List.{List, [], _∷_}
 use mathlib.Core.Logic.{_⊎_, inl, inr}
 use native.Mathlib.Omega.{arith}
 use lib.Dec.{eqb, ltb}
 use lib.ListN.{length}
-use Rattle.std.proofs.shelf.Tests.{and-parts, cases-bool, cond-both, cond-true, cond-false, eqb-true, false≢true, ne-eqb}
+use Rattle.std.proofs.shelf.Tests.{and-parts, cases-bool, cond-both, cond-true, cond-false, eqb-true, false≢true}
 use Rattle.std.specs.declared.option.Option.{Option}
 use Rattle.std.specs.declared.option.Option.the-variants.{Some, None}
 use Rattle.std.specs.declared.result.Result.{Result}
@@ -24,28 +24,27 @@ use Rattle.wire.specs.Reading.{next, readParts}
 use Rattle.wire.specs.declared.block.Block.{Block}
 use Rattle.wire.specs.declared.message.Certificate.{Certificate}
 use Rattle.wire.specs.declared.message.Parts.{Parts}
-use Rattle.wire.specs.declared.message.Parts.the-variants.{Proposal, Vote, Blame, Certified, Notice}
+use Rattle.wire.specs.declared.message.Parts.the-variants.{Certified, Notice}
 use Rattle.wire.proofs.OneForm.{lawful-from-read}
 use Rattle.shelf.specs.Ancestry.{Grown, Parent}
 use Rattle.shelf.specs.Blocks.{belowBlock, find, readBelow}
 use Rattle.shelf.proofs.Ancestry.{same-ranks}
 use Rattle.seat.specs.Calls.{blocksAfter, guarded, leastOutbox, opened, stateAfter}
-use Rattle.seat.specs.HandIn.{carried, handParts, idle, lastView, leaves as leavesBy, notice, taken, takeIn}
+use Rattle.seat.specs.HandIn.{carried, handParts, idle, lastView, leaves as leavesBy, notice, taken}
 use Rattle.seat.specs.Parts.{isOn}
-use Rattle.seat.specs.Sends.{Outcome, relay}
-use Rattle.seat.specs.TakeIn.{commits, extends, isLast, judgeFound, judgeIn, judgeNew, parentThere}
-use Rattle.seat.specs.declared.state.Phase.{Phase}
+use Rattle.seat.specs.Sends.{relay}
+use Rattle.seat.specs.TakeIn.{commits, extends, isLast, judgeFound, judgeIn, parentThere}
 use Rattle.seat.specs.declared.state.State.{State}
 use Rattle.seat.specs.declared.taking.Verdict.{Verdict}
 use Rattle.seat.specs.declared.taking.Verdict.the-variants.{Known, New}
-use Rattle.agreement.specs.History.{Call, Desk, Event, History, Refused, after, desk, hand, inboxOf, offer, outcome, result, sent, tick}
+use Rattle.agreement.specs.History.{Call, Desk, Event, History, Refused, desk, hand, inboxOf, offer, result, sent, tick}
 use Rattle.agreement.specs.Run.{Driven, Run}
-use Rattle.agreement.specs.Setting.{Lawful, Setting, Sound}
+use Rattle.agreement.specs.Setting.{Lawful, Setting}
 use Rattle.agreement.proofs.Facts.{GoodMessage, OnShelf, shelf, stage, state}
-use Rattle.agreement.proofs.Invariant.{Ordered, ordered}
+use Rattle.agreement.proofs.Invariant.{ordered}
 use Rattle.agreement.proofs.OneStep.{Judged, judged, parent-from-test}
 use Rattle.agreement.proofs.Shelves.{AllLawful, found-on, never-broken, on-from-find, on-last}
-use Rattle.agreement.proofs.Steps.{desk-mine}
+use Rattle.agreement.proofs.Steps.{desk-mine, event}
 
 same-bytes : (xs ys : List ℕ) → sameBytes xs ys ≡ true → xs ≡ ys
 same-bytes [] [] e = refl
@@ -147,9 +146,6 @@ module _ {L : ℕ} {R : Type 0} (S : ℕ) (k : Kind L R) (w : Setting) where
   empty-reads m e = let z : _≡_ {A = ℕ} 0 1 = cc in omega arith
 
   module _ (lawful : Lawful w) where
-    abbrev event : ℕ → Call → Event
-    event i c = record { who = i; what = c }
-
     opened-here : (n : ℕ) (inbox : List ℕ) (m : Parts R (List ℕ)) → readParts k S n inbox ≡ Ok m → judge (w .accepts) (asked k S n (w .leader) m) ≡ Ok tt →
         opened k S n (w .leader) (w .accepts) inbox ≡ Ok m
     opened-here n inbox m e f = ap (λ r. next r (λ m. next (judge (w .accepts) (asked k S n (w .leader) m)) (λ _. Ok m))) e ∙ ap (λ r. next r (λ _. Ok m)) f

@@ -1,24 +1,21 @@
 -- How a seat came into its view.
-use Prim.Native.Nat.{ℕ, zero, suc, _+_, _-_, _*_, _≤_, _<_, min}
+use Prim.Native.Nat.{ℕ, suc, _+_, _-_, _*_, _≤_, _<_, min}
 use mathlib.Core.Path.{_≡_, refl, sym, ap, subst, _∙_}
-use mathlib.Core.Bool.{Bool, true, false, cond}
-use mathlib.Core.List.{List, [], _∷_, _++_}
-use mathlib.Core.Logic.{_⊎_, inl, inr}
+use mathlib.Core.Bool.{true}
+use mathlib.Core.List.{[], _∷_}
+use mathlib.Core.Logic.{inl, inr}
 use native.Mathlib.Omega.{arith}
-use Rattle.std.specs.declared.option.Option.{Option}
-use Rattle.std.specs.declared.option.Option.the-variants.{Some, None}
+use Rattle.std.specs.declared.option.Option.the-variants.{Some}
 use Rattle.content.specs.Kinds.{Kind}
-use Rattle.wire.specs.Ranks.{Place, atLeast}
-use Rattle.wire.specs.declared.block.Block.{Block}
-use Rattle.seat.specs.declared.state.Phase.{Phase}
+use Rattle.wire.specs.Ranks.{atLeast}
 use Rattle.seat.specs.declared.state.Phase.the-variants.{On, Leaving}
 use Rattle.seat.specs.declared.state.State.{State}
 use Rattle.agreement.specs.History.{Desk, Event, History, clock, desk}
-use Rattle.agreement.specs.Run.{Driven, Moment, Run}
+use Rattle.agreement.specs.Run.{Driven, Run}
 use Rattle.agreement.specs.Setting.{Lawful, Setting, Sound}
-use Rattle.agreement.proofs.Facts.{AsNotice, Entry, OnIn, OnShelf, SendsSome, Was, shelf, state}
-use Rattle.agreement.proofs.Invariant.{Ordered, ordered, whose}
-use Rattle.agreement.proofs.OneStep.{Core, core, on-leaving}
+use Rattle.agreement.proofs.Facts.{AsNotice, Entry, OnIn, SendsSome, Was, shelf, state}
+use Rattle.agreement.proofs.Invariant.{ordered, whose}
+use Rattle.agreement.proofs.OneStep.{Core, on-leaving}
 use Rattle.agreement.proofs.Sane.{PhaseFits}
 use Rattle.agreement.proofs.Steps.{Step, departs, desk-none, desk-other, enters, rests, step, takes, ticks}
 use Rattle.agreement.proofs.Time.{leaving-short, was-map, was-more}

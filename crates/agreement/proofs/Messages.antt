@@ -1,25 +1,22 @@
 -- What the bytes of a notice and of a certificate are read as.
-use Prim.Native.Nat.{ℕ, _+_, _*_, _^_, _<_}
-use mathlib.Core.Path.{_≡_, refl, sym, ap, subst, _∙_}
-use mathlib.Core.Bool.{Bool, true, false, cond}
+use Prim.Native.Nat.{ℕ, _+_, _^_, _<_}
+use mathlib.Core.Path.{_≡_, refl, ap, subst}
 use mathlib.Core.List.{List, [], _∷_, _++_}
 use native.Mathlib.Omega.{arith}
 use lib.ListN.{length}
-use Rattle.std.specs.declared.option.Option.{Option}
-use Rattle.std.specs.declared.option.Option.the-variants.{Some, None}
 use Rattle.std.specs.declared.result.Result.{Result}
-use Rattle.std.specs.declared.result.Result.the-variants.{Ok, Err}
+use Rattle.std.specs.declared.result.Result.the-variants.{Ok}
 use Rattle.content.specs.Kinds.{Kind}
 use Rattle.content.specs.Numbers.{spell}
 use Rattle.content.specs.declared.refusal.Refusal.{Refusal}
 use Rattle.wire.specs.Lawful.{LawfulBlock}
 use Rattle.wire.specs.Layout.{blockBytes, messageBytes}
 use Rattle.wire.specs.Masks.{quorum}
-use Rattle.wire.specs.Reading.{Read, ended, next, peelBlock, peelBody, peelMask, peelNumber, peelSeals, readCertified, readNotice, readParts}
+use Rattle.wire.specs.Reading.{ended, peelBlock, peelBody, peelMask, peelNumber, peelSeals, readCertified, readNotice, readParts}
 use Rattle.wire.specs.declared.block.Block.{Block}
 use Rattle.wire.specs.declared.message.Certificate.{Certificate}
 use Rattle.wire.specs.declared.message.Parts.{Parts}
-use Rattle.wire.specs.declared.message.Parts.the-variants.{Proposal, Vote, Blame, Certified, Notice}
+use Rattle.wire.specs.declared.message.Parts.the-variants.{Certified, Notice}
 use Rattle.wire.proofs.Bodies.{block-forth}
 use Rattle.wire.proofs.Steps.{Gives, gives-err, gives-ok, gives-next, number-forth}
 use Rattle.agreement.specs.Setting.{Setting}

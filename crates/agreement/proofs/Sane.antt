@@ -1,24 +1,23 @@
 -- What holds of every sound seat at every moment of a run.
 use Prim.Native.Nat.{ℕ, zero, suc, _+_, _-_, _*_, _^_, _≤_, _<_, min}
 use mathlib.Core.Path.{_≡_, refl, sym, ap, subst, _∙_}
-use mathlib.Core.Bool.{Bool, true, false, cond, not, _&&_, _||_}
+use mathlib.Core.Bool.{Bool, true, cond, not, _&&_, _||_}
 use mathlib.Core.List.{List, [], _∷_, _++_}
 use mathlib.Core.Logic.{_⊎_, inl, inr}
 use native.Mathlib.Omega.{arith}
-use lib.Dec.{eqb, leb, ltb}
-use Rattle.std.proofs.shelf.Tests.{and-parts, cases-bool, cases-eq, cases-lt, cond-both, cond-true, cond-false, eqb-true, eqb-false, false≢true}
+use lib.Dec.{eqb, ltb}
+use Rattle.std.proofs.shelf.Tests.{cases-lt, cond-both, eqb-true, eqb-false, false≢true}
 use Rattle.std.specs.declared.option.Option.{Option}
 use Rattle.std.specs.declared.option.Option.the-variants.{Some, None}
 use Rattle.content.specs.Kinds.{Kind}
-use Rattle.wire.specs.Lawful.{LawfulBlock, TwoBytes}
-use Rattle.wire.specs.Ranks.{Place, atLeast, below}
+use Rattle.wire.specs.Lawful.{LawfulBlock}
+use Rattle.wire.specs.Ranks.{atLeast, below}
 use Rattle.wire.specs.declared.block.Block.{Block}
 use Rattle.wire.specs.declared.block.Rank.{Rank}
 use Rattle.wire.specs.declared.message.Certificate.{Certificate}
 use Rattle.shelf.specs.Ancestry.{Grown, MayFollow, Parent}
-use Rattle.shelf.specs.Blocks.{find, topTurn}
+use Rattle.shelf.specs.Blocks.{topTurn}
 use Rattle.shelf.proofs.Ancestry.{find-rank, grown-push}
-use Rattle.seat.specs.HandIn.{lastView}
 use Rattle.seat.specs.Parts.{isOn}
 use Rattle.seat.specs.TakeIn.{better, keepBest}
 use Rattle.seat.specs.Tick.{placeOf, turnAfter}
@@ -26,7 +25,7 @@ use Rattle.seat.specs.declared.state.Best.{Best}
 use Rattle.seat.specs.declared.state.Phase.{Phase}
 use Rattle.seat.specs.declared.state.Phase.the-variants.{On, Leaving}
 use Rattle.agreement.proofs.Facts.{OnShelf}
-use Rattle.agreement.proofs.OneStep.{Core, arrived, hereIn, later, left, on-from-test, shelved}
+use Rattle.agreement.proofs.OneStep.{Core, arrived, hereIn, later, left, shelved}
 use Rattle.agreement.proofs.Shelves.{AllLawful, TopOf, TurnOn, lawful-first, lawful-later, none-there, on-append, on-from-find, on-last, on-pushed, top-of, turns-down}
 
 module _ {L : ℕ} {R : Type 0} (k : Kind L R) where
@@ -101,9 +100,9 @@ module _ {L : ℕ} {R : Type 0} (k : Kind L R) where
     λ b on e. let z : b .rank .turn ≤ u = h .1 b on e in omega arith,
   )
 
-  pub sane-arrived : (delta since v : ℕ) (x : Core R) (bs : List (Block R)) → v ≤ 65535 → CoreSane delta x bs →
+  pub sane-arrived : (delta v : ℕ) (x : Core R) (bs : List (Block R)) → v ≤ 65535 → CoreSane delta x bs →
       CoreSane delta (arrived v (turnAfter (topTurn v bs)) x) bs
-  sane-arrived delta since v x bs small h = record {
+  sane-arrived delta v x bs small h = record {
     grown = h .grown;
     lawful = h .lawful;
     phase-fits = (small, turns-top v bs (topTurn v bs) (h .grown) (h .lawful) (top-of v bs));

@@ -1,26 +1,23 @@
 -- The shelf of one seat: it only grows, has lawful blocks with their parents, one a rank, and each was sent when it was taken in.
-use Prim.Native.Nat.{ℕ, zero, suc, _+_, _-_, _*_, _≤_, _<_}
-use mathlib.Core.Path.{_≡_, refl, sym, ap, subst, _∙_}
-use mathlib.Core.Bool.{Bool, true, false, cond}
-use mathlib.Core.List.{List, [], _∷_, _++_}
-use mathlib.Core.Logic.{_⊎_, inl, inr}
+use Prim.Native.Nat.{ℕ, _≤_, _<_}
+use mathlib.Core.Path.{_≡_, refl, sym, subst}
+use mathlib.Core.List.{[], _∷_}
+use mathlib.Core.Logic.{inl, inr}
 use native.Mathlib.Omega.{arith}
 use Rattle.std.proofs.shelf.Tests.{cases-lt}
-use Rattle.std.specs.declared.option.Option.{Option}
-use Rattle.std.specs.declared.option.Option.the-variants.{Some, None}
-use Rattle.std.specs.declared.result.Result.the-variants.{Ok, Err}
+use Rattle.std.specs.declared.option.Option.the-variants.{Some}
+use Rattle.std.specs.declared.result.Result.the-variants.{Ok}
 use Rattle.content.specs.Kinds.{Kind}
 use Rattle.wire.specs.Lawful.{LawfulBlock}
 use Rattle.wire.specs.declared.block.Block.{Block}
 use Rattle.shelf.specs.Blocks.{readBelow}
-use Rattle.seat.specs.declared.state.Phase.the-variants.{On, Leaving}
 use Rattle.seat.specs.declared.state.State.{State}
 use Rattle.agreement.specs.Committed.{Takes}
 use Rattle.agreement.specs.History.{Desk, Event, History, desk}
 use Rattle.agreement.specs.Run.{Driven, Run}
 use Rattle.agreement.specs.Setting.{Lawful, Setting, Sound}
 use Rattle.agreement.proofs.Facts.{AsCertificate, Descends, Earlier, OnIn, OnShelf, ParentOn, SendsSome, Was, shelf, state}
-use Rattle.agreement.proofs.Invariant.{Ordered, ordered, whose}
+use Rattle.agreement.proofs.Invariant.{ordered, whose}
 use Rattle.agreement.proofs.Sane.{PhaseFits, Turns}
 use Rattle.agreement.proofs.Shelves.{lawful-high, on-append, on-pushed, one-rank, parent-on, reads-below}
 use Rattle.agreement.proofs.Steps.{Step, departs, desk-none, desk-other, enters, rests, step, takes, ticks}

@@ -1,28 +1,27 @@
 -- Grown shelves of lawful blocks: which blocks are on them, and which turns of a view.
-use Prim.Native.Nat.{ℕ, zero, suc, _+_, _-_, _*_, _≤_, _<_, max}
+use Prim.Native.Nat.{ℕ, zero, suc, _+_, _-_, _≤_, _<_, max}
 use mathlib.Core.Path.{_≡_, refl, sym, ap, subst, _∙_}
-use mathlib.Core.Bool.{Bool, true, false, cond, not, _&&_, _||_}
+use mathlib.Core.Bool.{true}
 use mathlib.Core.List.{List, [], _∷_, _++_}
 use mathlib.Core.Logic.{_⊎_, inl, inr}
 use native.Mathlib.Omega.{arith}
-use lib.Dec.{eqb, leb, ltb}
-use Rattle.std.proofs.shelf.Lists.{append-assoc, append-nil}
-use Rattle.std.proofs.shelf.Tests.{cases-bool, cases-eq, cond-true, cond-false, cond-both, cases-lt, and-parts, eqb-true, eqb-false, eq-eqb, le-ltb, ltb-false, ne-eqb}
+use lib.Dec.{eqb, ltb}
+use Rattle.std.proofs.shelf.Lists.{append-assoc}
+use Rattle.std.proofs.shelf.Tests.{cases-bool, cond-true, cond-false, cond-both, cases-lt, eqb-true, eqb-false, eq-eqb, le-ltb, ltb-false, ne-eqb}
 use Rattle.std.specs.declared.option.Option.{Option}
 use Rattle.std.specs.declared.option.Option.the-variants.{Some, None}
 use Rattle.std.specs.declared.result.Result.{Result}
 use Rattle.std.specs.declared.result.Result.the-variants.{Ok, Err}
-use Rattle.std.specs.shelf.Text.{sameBytes}
 use Rattle.content.specs.Kinds.{Kind}
 use Rattle.content.specs.declared.refusal.Refusal.{Refusal}
 use Rattle.wire.specs.Lawful.{LawfulBlock}
-use Rattle.wire.specs.Layout.{lawfulNumbers, sameBlock}
+use Rattle.wire.specs.Layout.{lawfulNumbers}
 use Rattle.wire.specs.Ranks.{sameRank}
 use Rattle.wire.specs.declared.block.Block.{Block}
 use Rattle.wire.specs.declared.block.Rank.{Rank}
-use Rattle.shelf.specs.Ancestry.{Grown, GrownOn, MayFollow, Parent, Steps}
+use Rattle.shelf.specs.Ancestry.{Grown, GrownOn, Steps}
 use Rattle.shelf.specs.Blocks.{answered, belowBlock, climb, find, higher, readBelow, topTurn}
-use Rattle.shelf.proofs.Ancestry.{climb-from-steps, find-append-none, find-append-some, find-rank, height-positive, parent-there, same-ranks, steps-height, steps-there}
+use Rattle.shelf.proofs.Ancestry.{climb-from-steps, find-append-none, find-rank, height-positive, parent-there, steps-height, steps-there}
 use Rattle.shelf.proofs.Scans.{find-here, find-none, find-past}
 use Rattle.agreement.proofs.Facts.{Descends, OnShelf, self, up}
 

@@ -1,48 +1,47 @@
 -- What one call of a history does to its seat.
-use Prim.Native.Nat.{ℕ, zero, suc, _+_, _-_, _*_, _≤_, _<_, min}
+use Prim.Native.Nat.{ℕ, _+_, _-_, _*_, _≤_, _<_, min}
 use mathlib.Core.Path.{_≡_, refl, sym, ap, subst, _∙_}
-use mathlib.Core.Bool.{Bool, true, false, cond, not, _&&_, _||_}
+use mathlib.Core.Bool.{Bool, true}
 use mathlib.Core.List.{List, [], _∷_, _++_}
 use mathlib.Core.Logic.{_⊎_, inl, inr}
-use native.Mathlib.Omega.{arith}
-use lib.Dec.{eqb, leb, ltb}
-use Rattle.std.proofs.shelf.Tests.{cases-eq, cond-true, cond-false, eq-eqb, ne-eqb}
+use lib.Dec.{leb, ltb}
+use Rattle.std.proofs.shelf.Tests.{cond-true, cond-false, eq-eqb, ne-eqb}
 use Rattle.std.specs.declared.option.Option.{Option}
-use Rattle.std.specs.declared.option.Option.the-variants.{Some, None}
+use Rattle.std.specs.declared.option.Option.the-variants.{Some}
 use Rattle.std.specs.declared.result.Result.{Result}
 use Rattle.std.specs.declared.result.Result.the-variants.{Ok, Err}
-use Rattle.content.specs.Kinds.{Kind, Bytes}
+use Rattle.content.specs.Kinds.{Kind}
 use Rattle.content.specs.declared.refusal.Refusal.{Refusal}
 use Rattle.content.specs.declared.refusal.Refusal.the-variants.{LastTick, SlipOut, SmallOutbox}
 use Rattle.wire.specs.Asked.{asked, judge}
 use Rattle.wire.specs.Lawful.{LawfulBlock, LawfulParts}
 use Rattle.wire.specs.Layout.{messageBytes}
-use Rattle.wire.specs.Reading.{next, readParts}
-use Rattle.wire.specs.declared.block.Block.{Block}
+use Rattle.wire.specs.Reading.{readParts}
 use Rattle.wire.specs.declared.message.Certificate.{Certificate}
 use Rattle.wire.specs.declared.message.Parts.{Parts}
-use Rattle.wire.specs.declared.message.Parts.the-variants.{Proposal, Vote, Blame, Certified, Notice}
+use Rattle.wire.specs.declared.message.Parts.the-variants.{Certified, Notice}
 use Rattle.wire.proofs.OneForm.{lawful-from-read}
-use Rattle.wire.proofs.Steps.{Gives, gives-err, gives-ok, gives-if, gives-next, gives-unless, gives-either}
+use Rattle.wire.proofs.Steps.{Gives, gives-ok, gives-next, gives-unless}
 use Rattle.shelf.specs.Ancestry.{MayFollow}
 use Rattle.shelf.specs.Blocks.{topTurn}
-use Rattle.seat.specs.Calls.{guarded, handIn, lastTickOf, leastOutbox, offer as offerCall, opened, stateAfter, blocksAfter, sentStep, tick as tickCall}
-use Rattle.seat.specs.HandIn.{handParts, idle, lastView}
-use Rattle.seat.specs.Offer.{offerStep}
+use Rattle.seat.specs.Calls.{guarded, lastTickOf, leastOutbox, opened, stateAfter, blocksAfter}
+use Rattle.seat.specs.HandIn.{handParts, lastView}
 use Rattle.seat.specs.Parts.{newState, withSlip}
 use Rattle.seat.specs.Sends.{Outcome, Sending, relay, sendingBytes, write}
 use Rattle.seat.specs.Tick.{tickStep, turnAfter}
-use Rattle.seat.specs.declared.state.Phase.{Phase}
 use Rattle.seat.specs.declared.state.Phase.the-variants.{On, Leaving}
 use Rattle.seat.specs.declared.state.State.{State}
-use Rattle.seat.specs.declared.state.Terms.{Terms}
 use Rattle.agreement.specs.Committed.{Takes}
-use Rattle.agreement.specs.History.{Call, Desk, Did, Event, History, Is, Sends, after, desk, hand, inboxOf, offer, outcome, result, sent, tick}
+use Rattle.agreement.specs.History.{Call, Desk, Event, History, Is, after, desk, hand, offer, outcome, result, sent, tick}
 use Rattle.agreement.specs.Run.{Driven}
 use Rattle.agreement.specs.Setting.{Lawful, Setting, Sound}
 use Rattle.agreement.proofs.Facts.{AsCertificate, AsNotice, SendsSome, Ticks, shelf, state}
 use Rattle.agreement.proofs.Messages.{as-certificate-relayed, as-certificate-written, as-notice-relayed, as-notice-written}
-use Rattle.agreement.proofs.OneStep.{CertificateSent, Core, Effect, NoticeSent, TickEffect, arrived, arrives, core, goes, later, leaves, left, message-effect, offer-effect, shelved, shelves, stays, tick-effect}
+use Rattle.agreement.proofs.OneStep.{CertificateSent, Effect, TickEffect, arrived, arrives, core, goes, later, leaves, left, message-effect, offer-effect, shelved, shelves, stays, tick-effect}
+
+-- a call at a seat
+abbrev pub event : ℕ → Call → Event
+event i c = record { who = i; what = c }
 
 -- a call that is carried out had no slip out and an outbox of enough bytes
 pub gives-guarded : {S : ℕ} {R X : Type 0} {Q : X → Type 0} (s : State S R) (room : ℕ) (r : Result X Refusal) → Gives r Q → Gives (guarded s room r) Q
@@ -99,9 +98,6 @@ module _ {L : ℕ} {R : Type 0} (S : ℕ) (k : Kind L R) (w : Setting) where
         ((state S k w (e .who) p .view < v) ⊎ ((state S k w (e .who) p .phase ≡ On) × (state S k w (e .who) p .view ≡ v))) →
         core (d .state) ≡ left v (core (state S k w (e .who) p)) → d .blocks ≡ shelf S k w (e .who) p →
         (Lawful w → Driven S k w e p → SendsSome S k w (AsNotice S k w v) e p) → Step e p d
-
-  abbrev event : ℕ → Call → Event
-  event i c = record { who = i; what = c }
 
   -- the seat after a call that was carried out with an outcome
   abbrev done : Outcome S R → Desk S R

@@ -1,29 +1,23 @@
 -- The time of one seat: its stage and its clock never fall, it leaves a view for 2D + 1 ticks, and how it entered its view.
-use Prim.Native.Nat.{ℕ, zero, suc, _+_, _-_, _*_, _≤_, _<_, min}
+use Prim.Native.Nat.{ℕ, _+_, _*_, _≤_, _<_, min}
 use mathlib.Core.Path.{_≡_, refl, sym, ap, subst, _∙_}
 use mathlib.Core.Bool.{Bool, true, false, cond}
-use mathlib.Core.List.{List, [], _∷_, _++_}
+use mathlib.Core.List.{[], _∷_, _++_}
 use mathlib.Core.Logic.{_⊎_, inl, inr}
 use native.Mathlib.Omega.{arith}
-use Rattle.std.proofs.shelf.Tests.{cond-both}
-use Rattle.std.specs.declared.option.Option.{Option}
-use Rattle.std.specs.declared.option.Option.the-variants.{Some, None}
 use Rattle.content.specs.Kinds.{Kind}
-use Rattle.wire.specs.Ranks.{Place, atLeast}
-use Rattle.wire.specs.declared.block.Block.{Block}
 use Rattle.seat.specs.Parts.{isOn}
-use Rattle.seat.specs.Tick.{placeOf}
 use Rattle.seat.specs.declared.state.Phase.{Phase}
 use Rattle.seat.specs.declared.state.Phase.the-variants.{On, Leaving}
 use Rattle.seat.specs.declared.state.State.{State}
 use Rattle.agreement.specs.History.{Desk, Event, History, clock, desk}
-use Rattle.agreement.specs.Run.{Driven, Moment, Run}
+use Rattle.agreement.specs.Run.{Run}
 use Rattle.agreement.specs.Setting.{Lawful, Setting, Sound}
-use Rattle.agreement.proofs.Facts.{AsNotice, Earlier, Entry, OnIn, OnShelf, SendsSome, Ticks, Was, shelf, stage, state}
+use Rattle.agreement.proofs.Facts.{Earlier, Ticks, Was, shelf, stage, state}
 use Rattle.agreement.proofs.Invariant.{Ordered, ordered, whose}
-use Rattle.agreement.proofs.OneStep.{Core, core, on-leaving}
+use Rattle.agreement.proofs.OneStep.{Core, on-leaving}
 use Rattle.agreement.proofs.Sane.{PhaseFits}
-use Rattle.agreement.proofs.Steps.{Step, departs, desk-mine, desk-none, desk-other, enters, rests, step, takes, ticks}
+use Rattle.agreement.proofs.Steps.{Step, departs, desk-other, enters, rests, step, takes, ticks}
 
 -- the stage of a core
 abbrev pub stageOf : {R : Type 0} → Core R → ℕ
