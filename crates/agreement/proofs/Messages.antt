@@ -12,7 +12,7 @@ use Rattle.content.specs.declared.refusal.Refusal.{Refusal}
 use Rattle.wire.specs.Lawful.{LawfulBlock}
 use Rattle.wire.specs.Layout.{blockBytes, messageBytes}
 use Rattle.wire.specs.Masks.{quorum}
-use Rattle.wire.specs.Reading.{ended, peelBlock, peelBody, peelMask, peelNumber, peelSeals, readCertified, readNotice, readParts}
+use Rattle.wire.specs.Reading.{ended, peelBody, peelMask, peelNumber, peelSeals, readCertified, readNotice, readParts}
 use Rattle.wire.specs.declared.block.Block.{Block}
 use Rattle.wire.specs.declared.message.Certificate.{Certificate}
 use Rattle.wire.specs.declared.message.Parts.{Parts}
@@ -52,7 +52,7 @@ module _ {L : ℕ} {R : Type 0} (k : Kind L R) (S n : ℕ) where
   body-read : (at : ℕ) (b : Block R) (rest : List ℕ) → LawfulBlock k b →
       Gives (peelBody k S n at (blockBytes k b ++ rest)) (λ c. c .0 .block ≡ b)
   body-read at b rest lawful =
-      gives-next {Q = λ c. c .0 .block ≡ b} (peelBlock k S n at (blockBytes k b ++ rest)) _
+      gives-next {Q = λ c. c .0 .block ≡ b} _ _
       (gives-known (λ (x : Block R × List ℕ). x .0 ≡ b) (b, rest) (block-forth k S n at b rest lawful) refl) (λ block e.
       gives-next {Q = λ c. c .0 .block ≡ b} (peelMask n (at + 12 + L) (block .1)) _ (any _) (λ mask _.
       gives-next {Q = λ c. c .0 .block ≡ b} (peelSeals S (quorum n) (at + 14 + L) (mask .1)) _ (any _) (λ seals _.
