@@ -1,13 +1,13 @@
 -- A message with good seals is carried out: a notice moves the seat on, a certificate's block is on its shelf.
-use Prim.Native.Nat.{ℕ, zero, suc, _+_, _-_, _*_, _≤_, _<_}
+use Prim.Native.Nat.{ℕ, _+_, _*_, _≤_, _<_}
 use mathlib.Core.Path.{_≡_, refl, sym, ap, subst, _∙_}
-use mathlib.Core.Bool.{Bool, true, false, cond, not, _&&_, _||_}
-use mathlib.Core.List.{List, [], _∷_, _++_}
+use mathlib.Core.Bool.{Bool, true, false, cond, _&&_, _||_}
+use mathlib.Core.List.{List, [], _∷_}
 use mathlib.Core.Logic.{_⊎_, inl, inr}
 use native.Mathlib.Omega.{arith}
 use lib.Dec.{eqb, ltb}
 use lib.ListN.{length}
-use Rattle.std.proofs.shelf.Tests.{and-parts, cases-bool, cond-both, cond-true, cond-false, eqb-true, false≢true, ne-eqb}
+use Rattle.std.proofs.shelf.Tests.{and-parts, cases-bool, cond-both, cond-true, cond-false, eqb-true, false≢true}
 use Rattle.std.specs.declared.option.Option.{Option}
 use Rattle.std.specs.declared.option.Option.the-variants.{Some, None}
 use Rattle.std.specs.declared.result.Result.{Result}
@@ -24,28 +24,27 @@ use Rattle.wire.specs.Reading.{next, readParts}
 use Rattle.wire.specs.declared.block.Block.{Block}
 use Rattle.wire.specs.declared.message.Certificate.{Certificate}
 use Rattle.wire.specs.declared.message.Parts.{Parts}
-use Rattle.wire.specs.declared.message.Parts.the-variants.{Proposal, Vote, Blame, Certified, Notice}
+use Rattle.wire.specs.declared.message.Parts.the-variants.{Certified, Notice}
 use Rattle.wire.proofs.OneForm.{lawful-from-read}
 use Rattle.shelf.specs.Ancestry.{Grown, Parent}
 use Rattle.shelf.specs.Blocks.{belowBlock, find, readBelow}
 use Rattle.shelf.proofs.Ancestry.{same-ranks}
 use Rattle.seat.specs.Calls.{blocksAfter, guarded, leastOutbox, opened, stateAfter}
-use Rattle.seat.specs.HandIn.{carried, handParts, idle, lastView, leaves as leavesBy, notice, taken, takeIn}
+use Rattle.seat.specs.HandIn.{carried, handParts, idle, lastView, leaves as leavesBy, notice, taken}
 use Rattle.seat.specs.Parts.{isOn}
-use Rattle.seat.specs.Sends.{Outcome, relay}
-use Rattle.seat.specs.TakeIn.{commits, extends, isLast, judgeFound, judgeIn, judgeNew, parentThere}
-use Rattle.seat.specs.declared.state.Phase.{Phase}
+use Rattle.seat.specs.Sends.{relay}
+use Rattle.seat.specs.TakeIn.{commits, extends, isLast, judgeFound, judgeIn, parentThere}
 use Rattle.seat.specs.declared.state.State.{State}
 use Rattle.seat.specs.declared.taking.Verdict.{Verdict}
 use Rattle.seat.specs.declared.taking.Verdict.the-variants.{Known, New}
-use Rattle.agreement.specs.History.{Call, Desk, Event, History, Refused, after, desk, hand, inboxOf, offer, outcome, result, sent, tick}
+use Rattle.agreement.specs.History.{Call, Desk, Event, History, Refused, desk, hand, inboxOf, offer, result, sent, tick}
 use Rattle.agreement.specs.Run.{Driven, Run}
-use Rattle.agreement.specs.Setting.{Lawful, Setting, Sound}
+use Rattle.agreement.specs.Setting.{Lawful, Setting}
 use Rattle.agreement.proofs.Facts.{GoodMessage, OnShelf, shelf, stage, state}
-use Rattle.agreement.proofs.Invariant.{Ordered, ordered}
+use Rattle.agreement.proofs.Invariant.{ordered}
 use Rattle.agreement.proofs.OneStep.{Judged, judged, parent-from-test}
 use Rattle.agreement.proofs.Shelves.{AllLawful, found-on, never-broken, on-from-find, on-last}
-use Rattle.agreement.proofs.Steps.{desk-mine}
+use Rattle.agreement.proofs.Steps.{desk-mine, event}
 
 same-bytes : (xs ys : List ℕ) → sameBytes xs ys ≡ true → xs ≡ ys
 same-bytes [] [] e = refl
@@ -67,7 +66,7 @@ same-blocks {R} k x y lx ly e =
     let b : x .height ≡ y .height = eqb-true (x .height) (y .height) (q .0) in
     let c : x .parent ≡ y .parent = same-ranks (x .parent) (y .parent) (r .0) in
     let f : Some (x .content) ≡ Some (y .content) =
-        sym (lx .content) ∙ (ap (k .reads) (same-bytes (k .shown (x .content)) (k .shown (y .content)) (r .1)) ∙ ly .content) in
+    sym (lx .content) ∙ (ap (k .reads) (same-bytes (k .shown (x .content)) (k .shown (y .content)) (r .1)) ∙ ly .content) in
     let d : x .content ≡ y .content = some-same (x .content) (y .content) f in
     λ i. record { rank = a i; height = b i; parent = c i; content = d i }
   where
@@ -147,9 +146,6 @@ module _ {L : ℕ} {R : Type 0} (S : ℕ) (k : Kind L R) (w : Setting) where
   empty-reads m e = let z : _≡_ {A = ℕ} 0 1 = cc in omega arith
 
   module _ (lawful : Lawful w) where
-    abbrev event : ℕ → Call → Event
-    event i c = record { who = i; what = c }
-
     opened-here : (n : ℕ) (inbox : List ℕ) (m : Parts R (List ℕ)) → readParts k S n inbox ≡ Ok m → judge (w .accepts) (asked k S n (w .leader) m) ≡ Ok tt →
         opened k S n (w .leader) (w .accepts) inbox ≡ Ok m
     opened-here n inbox m e f = ap (λ r. next r (λ m. next (judge (w .accepts) (asked k S n (w .leader) m)) (λ _. Ok m))) e ∙ ap (λ r. next r (λ _. Ok m)) f
@@ -162,10 +158,11 @@ module _ {L : ℕ} {R : Type 0} (S : ℕ) (k : Kind L R) (w : Setting) where
         let n : ℕ = w .terms i .seats .n in
         let same : w .n ≡ n = sym (lawful .shares-n i (driven .at-sound)) in
         let reads : readParts k S n inbox ≡ Ok m = subst (λ n. readParts k S n inbox ≡ Ok m) same (good .0) in
-        let sealed : judge (w .accepts) (asked k S n (w .leader) m) ≡ Ok tt = subst (λ n. judge (w .accepts) (asked k S n (w .leader) m) ≡ Ok tt) same (good .1) in
-        (guarded-passes (state S k w i p) room _ (driven .never-slip) (driven .never-small) ∙
-        ap (λ r. next r (handParts k (w .terms i) (state S k w i p) (shelf S k w i p) (w .cells i))) (opened-here n inbox m reads sealed),
-        desk-mine S k w i (event i (hand inbox room)) p refl)
+        let sealed : judge (w .accepts) (asked k S n (w .leader) m) ≡ Ok tt = subst (λ n. judge (w .accepts) (asked k S n (w .leader) m) ≡ Ok tt) same (good .1) in (
+          guarded-passes (state S k w i p) room _ (driven .never-slip) (driven .never-small) ∙
+              ap (λ r. next r (handParts k (w .terms i) (state S k w i p) (shelf S k w i p) (w .cells i))) (opened-here n inbox m reads sealed),
+          desk-mine S k w i (event i (hand inbox room)) p refl,
+        )
     good-step i (tick room) p m driven good = absurd (empty-reads m (good .0))
     good-step i (offer content room) p m driven good = absurd (empty-reads m (good .0))
     good-step i sent p m driven good = absurd (empty-reads m (good .0))
@@ -210,12 +207,12 @@ module _ {L : ℕ} {R : Type 0} (S : ℕ) (k : Kind L R) (w : Setting) where
         let l = lawful-from-read k S (w .n) (inboxOf (e .what)) (Certified c) (run .0 .driven .in-bytes) (good .0) in
         let refused : (x : Refusal) → judgeIn k s bs cells (c .block) ≡ Err x → Refused S k w x e p = λ x f. g .0 ∙ ap (carried (taken s bs c relay)) f in
         let d : Denies (judgeIn k s bs cells (c .block)) (λ _. ⊥) = λ x f.
-            elim (judge-denies k s bs cells (c .block) (o .grown) x f) [
-              | inl q ↦ orphan (subst (λ y. Refused S k w y e p) q (refused x f))
-              | inr (inl q) ↦ rival (subst (λ y. Refused S k w y e p) q (refused x f))
-              | inr (inr (inl q)) ↦ run .0 .driven .never-full (subst (λ y. Refused S k w y e p) q (refused x f))
-              | inr (inr (inr q)) ↦ fork (subst (λ y. Refused S k w y e p) q (refused x f))
-            ] in
+        elim (judge-denies k s bs cells (c .block) (o .grown) x f) [
+          | inl q ↦ orphan (subst (λ y. Refused S k w y e p) q (refused x f))
+          | inr (inl q) ↦ rival (subst (λ y. Refused S k w y e p) q (refused x f))
+          | inr (inr (inl q)) ↦ run .0 .driven .never-full (subst (λ y. Refused S k w y e p) q (refused x f))
+          | inr (inr (inr q)) ↦ fork (subst (λ y. Refused S k w y e p) q (refused x f))
+        ] in
         subst (λ (d : Desk S R). OnShelf (c .block) (d .blocks)) (sym (g .1))
         (subst (λ r. OnShelf (c .block) (blocksAfter bs r)) (sym (g .0))
         (shelved-after s bs c (judgeIn k s bs cells (c .block)) (o .grown) (o .lawful) (l .0) (judged k s bs cells (c .block)) d))

@@ -1,24 +1,21 @@
 -- How a seat came into its view.
-use Prim.Native.Nat.{ℕ, zero, suc, _+_, _-_, _*_, _≤_, _<_, min}
+use Prim.Native.Nat.{ℕ, suc, _+_, _-_, _*_, _≤_, _<_, min}
 use mathlib.Core.Path.{_≡_, refl, sym, ap, subst, _∙_}
-use mathlib.Core.Bool.{Bool, true, false, cond}
-use mathlib.Core.List.{List, [], _∷_, _++_}
-use mathlib.Core.Logic.{_⊎_, inl, inr}
+use mathlib.Core.Bool.{true}
+use mathlib.Core.List.{[], _∷_}
+use mathlib.Core.Logic.{inl, inr}
 use native.Mathlib.Omega.{arith}
-use Rattle.std.specs.declared.option.Option.{Option}
-use Rattle.std.specs.declared.option.Option.the-variants.{Some, None}
+use Rattle.std.specs.declared.option.Option.the-variants.{Some}
 use Rattle.content.specs.Kinds.{Kind}
-use Rattle.wire.specs.Ranks.{Place, atLeast}
-use Rattle.wire.specs.declared.block.Block.{Block}
-use Rattle.seat.specs.declared.state.Phase.{Phase}
+use Rattle.wire.specs.Ranks.{atLeast}
 use Rattle.seat.specs.declared.state.Phase.the-variants.{On, Leaving}
 use Rattle.seat.specs.declared.state.State.{State}
 use Rattle.agreement.specs.History.{Desk, Event, History, clock, desk}
-use Rattle.agreement.specs.Run.{Driven, Moment, Run}
+use Rattle.agreement.specs.Run.{Driven, Run}
 use Rattle.agreement.specs.Setting.{Lawful, Setting, Sound}
-use Rattle.agreement.proofs.Facts.{AsNotice, Entry, OnIn, OnShelf, SendsSome, Was, shelf, state}
-use Rattle.agreement.proofs.Invariant.{Ordered, ordered, whose}
-use Rattle.agreement.proofs.OneStep.{Core, core, on-leaving}
+use Rattle.agreement.proofs.Facts.{AsNotice, Entry, OnIn, SendsSome, Was, shelf, state}
+use Rattle.agreement.proofs.Invariant.{ordered, whose}
+use Rattle.agreement.proofs.OneStep.{Core, on-leaving}
 use Rattle.agreement.proofs.Sane.{PhaseFits}
 use Rattle.agreement.proofs.Steps.{Step, departs, desk-none, desk-other, enters, rests, step, takes, ticks}
 use Rattle.agreement.proofs.Time.{leaving-short, was-map, was-more}
@@ -36,9 +33,9 @@ module _ {L : ℕ} {R : Type 0} (S : ℕ) (k : Kind L R) (w : Setting) (lawful :
       (LeavingIn (e .who) v since p → Was (Left (e .who) v since) p) → LeavingIn (e .who) v since (e ∷ p) → Was (Left (e .who) v since) (e ∷ p)
   left-step e p v since driven (rests c b) old h =
       was-more _ e p (old (sym (ap (λ (x : Core R). x .phase) c) ∙ h .0, sym (ap (λ (x : Core R). x .view) c) ∙ h .1))
-  left-step e p v since driven (ticks c b short) old h =
+  left-step e p v since driven (ticks call c b short) old h =
       was-more _ e p (old (sym (ap (λ (x : Core R). x .phase) c) ∙ h .0, sym (ap (λ (x : Core R). x .view) c) ∙ h .1))
-  left-step e p v since driven (enters other g long c b) old h = absurd (on-leaving since (sym (ap (λ (x : Core R). x .phase) c) ∙ h .0))
+  left-step e p v since driven (enters call other g long c b) old h = absurd (on-leaving since (sym (ap (λ (x : Core R). x .phase) c) ∙ h .0))
   left-step e p v since driven (takes c good follows co b took sends) old h =
       was-more _ e p (old (sym (ap (λ (x : Core R). x .phase) co) ∙ h .0, sym (ap (λ (x : Core R). x .view) co) ∙ h .1))
   left-step e p v since driven (departs u small leads c b sends) old h =
@@ -77,7 +74,7 @@ module _ {L : ℕ} {R : Type 0} (S : ℕ) (k : Kind L R) (w : Setting) (lawful :
   entry-step e p u run (rests c b) old h =
       entry-more (e .who) u e p (sym (ap (λ (x : Core R). x .lock) c))
       (old (sym (ap (λ (x : Core R). x .phase) c) ∙ h .0, sym (ap (λ (x : Core R). x .view) c) ∙ h .1))
-  entry-step e p u run (ticks c b short) old h =
+  entry-step e p u run (ticks call c b short) old h =
       entry-more (e .who) u e p (sym (ap (λ (x : Core R). x .lock) c))
       (old (sym (ap (λ (x : Core R). x .phase) c) ∙ h .0, sym (ap (λ (x : Core R). x .view) c) ∙ h .1))
   entry-step e p u run (takes c good follows co b took sends) old h =
@@ -85,7 +82,7 @@ module _ {L : ℕ} {R : Type 0} (S : ℕ) (k : Kind L R) (w : Setting) (lawful :
       (old (sym (ap (λ (x : Core R). x .phase) co) ∙ h .0, sym (ap (λ (x : Core R). x .view) co) ∙ h .1))
   entry-step e p u run (departs v small leads c b sends) old h =
       absurd (on-leaving (state S k w (e .who) p .now) (sym (h .0) ∙ ap (λ (x : Core R). x .phase) c))
-  entry-step e p u run (enters since f long c b) old h =
+  entry-step e p u run (enters call since f long c b) old h =
       let s : State S R = state S k w (e .who) p in
       let o = ordered S k w lawful (e .who) p (run .1) in
       let short = leaving-short S k w lawful (e .who) since p (run .0 .driven .at-sound) (run .1) f in
@@ -97,13 +94,18 @@ module _ {L : ℕ} {R : Type 0} (S : ℕ) (k : Kind L R) (w : Setting) (lawful :
       let into : min (s .view + 1) 65535 ≡ suc u = sym (ap (λ (x : Core R). x .view) c) ∙ h .1 in
       let from : s .view ≡ u = omega arith in
       let tick : clock S k w (e .who) (e ∷ p) ≡ s .now + 1 = ap (λ (x : Core R). x .now) c in
-      let on-time : since + (2 * w .delta + 1) ≡ clock S k w (e .who) (e ∷ p) = omega arith in
-      ([], e, p, refl, record {
-        mine = refl;
-        on-after = h;
-        locks = λ x on. subst (λ l. atLeast l (Some (x .rank)) ≡ true) (sym (ap (λ (x : Core R). x .lock) c)) (o .core-sane .covers x on);
-        notice = was-map _ _ p (λ x r l. (l .0, l .1, ap (λ y. y + (2 * w .delta + 1)) (l .2) ∙ on-time)) (left-was (e .who) u since p (run .1) (f, from));
-      })
+      let on-time : since + (2 * w .delta + 1) ≡ clock S k w (e .who) (e ∷ p) = omega arith in (
+        [],
+        e,
+        p,
+        refl,
+        record {
+          mine = refl;
+          on-after = h;
+          locks = λ x on. subst (λ l. atLeast l (Some (x .rank)) ≡ true) (sym (ap (λ (x : Core R). x .lock) c)) (o .core-sane .covers x on);
+          notice = was-map _ _ p (λ x r l. (l .0, l .1, ap (λ y. y + (2 * w .delta + 1)) (l .2) ∙ on-time)) (left-was (e .who) u since p (run .1) (f, from));
+        },
+      )
 
   entry-was : (i u : ℕ) (h : History) → Run S k w h → OnIn S k w i (suc u) h → Was (Entry S k w i u h) h
   entry-was i u [] run h = absurd (let z : 0 ≡ suc u = sym (ap (λ (d : Desk S R). d .state .view) (desk-none S k w i)) ∙ h .1 in omega arith)
@@ -121,5 +123,5 @@ module _ {L : ℕ} {R : Type 0} (S : ℕ) (k : Kind L R) (w : Setting) (lawful :
   entry i u h sound run on =
       let s : State S R = state S k w i h in
       let small : s .view ≤ 65535 =
-          subst (λ ph. PhaseFits (w .delta) ph (s .now) (s .view) (s .turn) (shelf S k w i h)) (on .0) (ordered S k w lawful i h run .core-sane .phase-fits) .0 in
+      subst (λ ph. PhaseFits (w .delta) ph (s .now) (s .view) (s .turn) (shelf S k w i h)) (on .0) (ordered S k w lawful i h run .core-sane .phase-fits) .0 in
       (subst (λ v. v ≤ 65535) (on .1) small, entry-was i u h run on)

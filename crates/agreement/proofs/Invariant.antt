@@ -1,11 +1,11 @@
 -- Every sound seat, at every moment of a run, is in order.
-use Prim.Native.Nat.{ℕ, zero, suc, _+_, _-_, _*_, _≤_, _<_, min}
-use mathlib.Core.Path.{_≡_, refl, sym, ap, subst, _∙_}
-use mathlib.Core.Bool.{Bool, true, false, cond, not, _&&_, _||_}
+use Prim.Native.Nat.{ℕ, _+_, _-_, _*_, _<_, min}
+use mathlib.Core.Path.{_≡_, refl, sym, subst}
+use mathlib.Core.Bool.{false}
 use mathlib.Core.List.{List, [], _∷_, _++_}
 use mathlib.Core.Logic.{_⊎_, inl, inr}
 use native.Mathlib.Omega.{arith}
-use lib.Dec.{eqb, leb, ltb}
+use lib.Dec.{eqb, leb}
 use Rattle.std.proofs.shelf.Tests.{cases-bool, eqb-true, eqb-false, true≢false}
 use Rattle.std.specs.declared.result.Result.{Result}
 use Rattle.std.specs.declared.result.Result.the-variants.{Ok, Err}
@@ -24,12 +24,12 @@ use Rattle.seat.specs.declared.state.Phase.the-variants.{On, Leaving}
 use Rattle.seat.specs.declared.state.State.{State}
 use Rattle.agreement.specs.History.{Call, Desk, Event, History, after, desk, hand, offer, outcome, sent, tick}
 use Rattle.agreement.specs.Run.{Driven, Run}
-use Rattle.agreement.specs.Setting.{Lawful, Setting, Sound}
+use Rattle.agreement.specs.Setting.{Lawful, Setting}
 use Rattle.agreement.proofs.Facts.{shelf, state}
-use Rattle.agreement.proofs.OneStep.{Core, core}
+use Rattle.agreement.proofs.OneStep.{core}
 use Rattle.agreement.proofs.Rounds.{RoundSane, message-sane, offer-sane, tick-sane}
 use Rattle.agreement.proofs.Sane.{CoreSane, PhaseFits, sane-arrived, sane-later, sane-left, sane-shelved}
-use Rattle.agreement.proofs.Steps.{Step, departs, desk-mine, desk-none, desk-other, enters, gives-guarded, gives-hand, rests, step, takes, ticks}
+use Rattle.agreement.proofs.Steps.{Step, departs, desk-mine, desk-none, desk-other, enters, event, gives-guarded, gives-hand, rests, step, takes, ticks}
 
 -- whose call it is
 pub whose : (i j : ℕ) → (i ≡ j) ⊎ (i ≡ j → ⊥)
@@ -50,14 +50,14 @@ module _ {L : ℕ} {R : Type 0} (S : ℕ) (k : Kind L R) (w : Setting) where
         CoreSane k (w .delta) (core (state S k w (e .who) p)) (shelf S k w (e .who) p) → Step S k w e p d → CoreSane k (w .delta) (core (d .state)) (d .blocks)
     core-step e p d driven h (rests c b) =
         subst (CoreSane k (w .delta) (core (d .state))) (sym b) (subst (λ x. CoreSane k (w .delta) x (shelf S k w (e .who) p)) (sym c) h)
-    core-step e p d driven h (ticks c b short) =
+    core-step e p d driven h (ticks call c b short) =
         let same : w .terms (e .who) .delta ≡ w .delta = lawful .shares-delta (e .who) (driven .at-sound) in
         let n : (since : ℕ) → state S k w (e .who) p .phase ≡ Leaving since → (state S k w (e .who) p .now + 1) - since < 2 * w .delta + 1 =
-            λ since f. subst (λ x. (state S k w (e .who) p .now + 1) - since < 2 * x + 1) same (short since f) in
+        λ since f. subst (λ x. (state S k w (e .who) p .now + 1) - since < 2 * x + 1) same (short since f) in
         let g = sane-later k (w .delta) (core (state S k w (e .who) p)) (shelf S k w (e .who) p) n h in
         subst (CoreSane k (w .delta) (core (d .state))) (sym b) (subst (λ x. CoreSane k (w .delta) x (shelf S k w (e .who) p)) (sym c) g)
-    core-step e p d driven h (enters since f long c b) =
-        let g = sane-arrived k (w .delta) since (min (state S k w (e .who) p .view + 1) 65535) (core (state S k w (e .who) p)) (shelf S k w (e .who) p) (omega arith) h in
+    core-step e p d driven h (enters call since f long c b) =
+        let g = sane-arrived k (w .delta) (min (state S k w (e .who) p .view + 1) 65535) (core (state S k w (e .who) p)) (shelf S k w (e .who) p) (omega arith) h in
         subst (CoreSane k (w .delta) (core (d .state))) (sym b) (subst (λ x. CoreSane k (w .delta) x (shelf S k w (e .who) p)) (sym c) g)
     core-step e p d driven h (takes c good follows co b took sends) =
         let g = sane-shelved k (w .delta) c (state S k w (e .who) p .spoiled) (core (state S k w (e .who) p)) (shelf S k w (e .who) p) (good lawful driven) follows h in
@@ -65,9 +65,6 @@ module _ {L : ℕ} {R : Type 0} (S : ℕ) (k : Kind L R) (w : Setting) where
     core-step e p d driven h (departs v small leads c b sends) =
         let g = sane-left k (w .delta) v (core (state S k w (e .who) p)) (shelf S k w (e .who) p) (small lawful driven) h in
         subst (CoreSane k (w .delta) (core (d .state))) (sym b) (subst (λ x. CoreSane k (w .delta) x (shelf S k w (e .who) p)) (sym c) g)
-
-    abbrev event : ℕ → Call → Event
-    event i c = record { who = i; what = c }
 
     round-result : (s : State S R) (r : Result (Outcome S R) Refusal) → RoundSane k s → Gives r (λ o. RoundSane k (o .state)) → RoundSane k (stateAfter s r)
     round-result s (Ok o) h g = g o refl

@@ -1,25 +1,22 @@
 -- What the bytes of a notice and of a certificate are read as.
-use Prim.Native.Nat.{ℕ, _+_, _*_, _^_, _<_}
-use mathlib.Core.Path.{_≡_, refl, sym, ap, subst, _∙_}
-use mathlib.Core.Bool.{Bool, true, false, cond}
+use Prim.Native.Nat.{ℕ, _+_, _^_, _<_}
+use mathlib.Core.Path.{_≡_, refl, ap, subst}
 use mathlib.Core.List.{List, [], _∷_, _++_}
 use native.Mathlib.Omega.{arith}
 use lib.ListN.{length}
-use Rattle.std.specs.declared.option.Option.{Option}
-use Rattle.std.specs.declared.option.Option.the-variants.{Some, None}
 use Rattle.std.specs.declared.result.Result.{Result}
-use Rattle.std.specs.declared.result.Result.the-variants.{Ok, Err}
+use Rattle.std.specs.declared.result.Result.the-variants.{Ok}
 use Rattle.content.specs.Kinds.{Kind}
 use Rattle.content.specs.Numbers.{spell}
 use Rattle.content.specs.declared.refusal.Refusal.{Refusal}
 use Rattle.wire.specs.Lawful.{LawfulBlock}
 use Rattle.wire.specs.Layout.{blockBytes, messageBytes}
 use Rattle.wire.specs.Masks.{quorum}
-use Rattle.wire.specs.Reading.{Read, ended, next, peelBlock, peelBody, peelMask, peelNumber, peelSeals, readCertified, readNotice, readParts}
+use Rattle.wire.specs.Reading.{ended, peelBody, peelMask, peelNumber, peelSeals, readCertified, readNotice, readParts}
 use Rattle.wire.specs.declared.block.Block.{Block}
 use Rattle.wire.specs.declared.message.Certificate.{Certificate}
 use Rattle.wire.specs.declared.message.Parts.{Parts}
-use Rattle.wire.specs.declared.message.Parts.the-variants.{Proposal, Vote, Blame, Certified, Notice}
+use Rattle.wire.specs.declared.message.Parts.the-variants.{Certified, Notice}
 use Rattle.wire.proofs.Bodies.{block-forth}
 use Rattle.wire.proofs.Steps.{Gives, gives-err, gives-ok, gives-next, number-forth}
 use Rattle.agreement.specs.Setting.{Setting}
@@ -55,7 +52,7 @@ module _ {L : ℕ} {R : Type 0} (k : Kind L R) (S n : ℕ) where
   body-read : (at : ℕ) (b : Block R) (rest : List ℕ) → LawfulBlock k b →
       Gives (peelBody k S n at (blockBytes k b ++ rest)) (λ c. c .0 .block ≡ b)
   body-read at b rest lawful =
-      gives-next {Q = λ c. c .0 .block ≡ b} (peelBlock k S n at (blockBytes k b ++ rest)) _
+      gives-next {Q = λ c. c .0 .block ≡ b} _ _
       (gives-known (λ (x : Block R × List ℕ). x .0 ≡ b) (b, rest) (block-forth k S n at b rest lawful) refl) (λ block e.
       gives-next {Q = λ c. c .0 .block ≡ b} (peelMask n (at + 12 + L) (block .1)) _ (any _) (λ mask _.
       gives-next {Q = λ c. c .0 .block ≡ b} (peelSeals S (quorum n) (at + 14 + L) (mask .1)) _ (any _) (λ seals _.

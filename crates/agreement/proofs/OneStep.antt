@@ -1,13 +1,13 @@
 -- What one call does to a seat, handler by handler: its core (time, stage, turn, lock, best, last commit) and its shelf.
-use Prim.Native.Nat.{ℕ, zero, suc, _+_, _-_, _*_, _^_, _≤_, _<_, min}
-use mathlib.Core.Path.{_≡_, refl, sym, ap, subst, _∙_}
+use Prim.Native.Nat.{ℕ, _+_, _-_, _*_, _≤_, _<_, min}
+use mathlib.Core.Path.{_≡_, refl, sym, subst, _∙_}
 use mathlib.Core.Bool.{Bool, true, false, cond, not, _&&_, _||_}
 use mathlib.Core.List.{List, [], _∷_, _++_}
 use mathlib.Core.Logic.{_⊎_, inl, inr}
 use native.Mathlib.Omega.{arith}
 use lib.Dec.{eqb, leb, ltb}
 use lib.ListN.{length}
-use Rattle.std.proofs.shelf.Tests.{true≢false, false≢true, cases-bool, cond-true, cond-false, cond-both, and-parts, or-cases, eqb-true, eqb-false, ltb-true, leb-true, leb-false}
+use Rattle.std.proofs.shelf.Tests.{false≢true, cases-bool, cond-false, cond-both, and-parts, or-cases, eqb-true, eqb-false, ltb-true, leb-true, leb-false}
 use Rattle.std.specs.declared.option.Option.{Option}
 use Rattle.std.specs.declared.option.Option.the-variants.{Some, None}
 use Rattle.std.specs.declared.result.Result.{Result}
@@ -15,7 +15,7 @@ use Rattle.std.specs.declared.result.Result.the-variants.{Ok, Err}
 use Rattle.content.specs.Kinds.{Kind, readContent}
 use Rattle.content.specs.declared.refusal.Refusal.{Refusal}
 use Rattle.content.specs.declared.refusal.Refusal.the-variants.{Orphan, Rival, Full, Fork, LastView, NotLeader, OfferLeaving, OfferSpoiled, OfferedAlready, NoPlaceLeft, OfferTooSoon, NoLawfulParent}
-use Rattle.wire.specs.Lawful.{LawfulBlock, LawfulBody, LawfulParent, LawfulParts, TwoBytes}
+use Rattle.wire.specs.Lawful.{LawfulBlock, LawfulParent, LawfulParts, TwoBytes}
 use Rattle.wire.specs.Layout.{sameBlock}
 use Rattle.wire.specs.Ranks.{Place, parentOf}
 use Rattle.wire.specs.declared.block.Block.{Block}
@@ -26,12 +26,12 @@ use Rattle.wire.specs.declared.rows.SealRow.{SealRow}
 use Rattle.wire.proofs.Steps.{Gives, gives-err, gives-ok, gives-if, gives-next, gives-unless, gives-either}
 use Rattle.shelf.specs.Ancestry.{MayFollow, Parent}
 use Rattle.shelf.specs.Blocks.{find, readBelow, topTurn}
-use Rattle.seat.specs.HandIn.{accepts, acceptedAt, adds, addSeal, atNote, blame, blameCounts, carried, certificateOf, clashes, completed, countable, counted, handParts, hasSeal, idle, lastView, leaves as leavesBy, notice, noticeOf, ownBlame, proposal, proposed, quorate, slotOpen, taken, takeIn, vote, voteCounts}
+use Rattle.seat.specs.HandIn.{accepts, addSeal, atNote, blame, carried, certificateOf, clashes, completed, countable, handParts, hasSeal, idle, lastView, notice, proposal, proposed, quorate, slotOpen, taken, takeIn, vote}
 use Rattle.seat.specs.Offer.{canCarry, lastHeight, lastTurn, nextHeight, offerStep, tooSoon}
-use Rattle.seat.specs.Parts.{isOn, leave, turnRises, withBest, withBlames, withCommitted, withNote, withNow, withVotes}
+use Rattle.seat.specs.Parts.{isOn, turnRises, withBest, withCommitted, withNote, withNow, withVotes}
 use Rattle.seat.specs.Sends.{Outcome, Sending, relay, write, zeroSeal}
-use Rattle.seat.specs.TakeIn.{better, commits, here, extends, isLast, judgeIn, judgeFound, judgeNew, oneUp, parentThere, shelve}
-use Rattle.seat.specs.Tick.{blames, enter, entered, leavingTick, onTick, placeOf, tickStep, ticked, turnAfter, votedFor, voteDue}
+use Rattle.seat.specs.TakeIn.{better, commits, here, extends, isLast, judgeIn, judgeFound, oneUp, parentThere, shelve}
+use Rattle.seat.specs.Tick.{blames, enter, entered, onTick, placeOf, tickStep, ticked, turnAfter, votedFor, voteDue}
 use Rattle.seat.specs.declared.answer.Word.{Word}
 use Rattle.seat.specs.declared.answer.Word.the-variants.{Idle, Noted, Voted}
 use Rattle.seat.specs.declared.state.Best.{Best}

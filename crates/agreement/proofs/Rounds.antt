@@ -1,17 +1,14 @@
 -- A seat's note, votes and blames: the note is lawful and of the seat's own rank; while leaving it is not accepted, and no seals are kept.
-use Prim.Native.Nat.{ℕ, zero, suc, _+_, _-_, _*_, _≤_, _<_, min}
-use mathlib.Core.Path.{_≡_, refl, sym, ap, subst, _∙_}
-use mathlib.Core.Bool.{Bool, true, false, cond, not, _&&_, _||_}
-use mathlib.Core.List.{List, [], _∷_, _++_}
-use mathlib.Core.Logic.{_⊎_, inl, inr}
+use Prim.Native.Nat.{ℕ, _+_, _-_, _*_, _<_, min}
+use mathlib.Core.Path.{_≡_, refl, sym, subst, _∙_}
+use mathlib.Core.Bool.{true, false, cond, not, _&&_, _||_}
+use mathlib.Core.List.{List}
 use native.Mathlib.Omega.{arith}
 use lib.Dec.{eqb, leb, ltb}
-use Rattle.std.proofs.shelf.Tests.{and-parts, cond-both, eqb-true, eqb-false, false≢true}
+use Rattle.std.proofs.shelf.Tests.{and-parts, cond-both, eqb-true, false≢true}
 use Rattle.std.specs.Options.{isSome}
 use Rattle.std.specs.declared.option.Option.{Option}
 use Rattle.std.specs.declared.option.Option.the-variants.{Some, None}
-use Rattle.std.specs.declared.result.Result.{Result}
-use Rattle.std.specs.declared.result.Result.the-variants.{Ok, Err}
 use Rattle.content.specs.Kinds.{Kind, readContent}
 use Rattle.content.specs.declared.refusal.Refusal.the-variants.{LastView, NotLeader, OfferLeaving, OfferSpoiled, OfferedAlready, NoPlaceLeft, OfferTooSoon, NoLawfulParent}
 use Rattle.wire.specs.Lawful.{LawfulBlock, LawfulParts}
@@ -23,12 +20,12 @@ use Rattle.wire.specs.declared.message.Parts.the-variants.{Proposal, Vote, Blam
 use Rattle.wire.specs.declared.rows.SealRow.{SealRow}
 use Rattle.wire.proofs.Steps.{Gives, gives-ok, gives-if, gives-next, gives-unless, gives-either}
 use Rattle.shelf.specs.Blocks.{topTurn}
-use Rattle.seat.specs.HandIn.{acceptable, accepts, acceptedAt, adds, addSeal, atNote, atSlot, blame, certificateOf, clashes, completed, countable, counted, handParts, hasSeal, idle, isNote, lastView, leaves as leavesBy, notice, noticeOf, ownBlame, proposal, proposed, quorate, slotOpen, taken, takeIn, vote}
+use Rattle.seat.specs.HandIn.{acceptable, accepts, acceptedAt, adds, addSeal, atNote, atSlot, certificateOf, clashes, completed, countable, counted, handParts, hasSeal, idle, lastView, leaves as leavesBy, noticeOf, proposed, quorate, slotOpen, taken}
 use Rattle.seat.specs.Offer.{canCarry, lastHeight, lastTurn, nextHeight, offerStep, offers, tooSoon}
-use Rattle.seat.specs.Parts.{isOn, leave, newRound, noSeals, turnRises, withBest, withBlamed, withBlames, withCommitted, withNote, withNow, withSpoiled, withVotes}
+use Rattle.seat.specs.Parts.{isOn, noSeals, turnRises, withBest, withBlames, withCommitted, withNote, withNow, withVotes}
 use Rattle.seat.specs.Sends.{Outcome, Sending, relay, write, zeroSeal}
 use Rattle.seat.specs.TakeIn.{better, commits, here, judgeIn, shelve}
-use Rattle.seat.specs.Tick.{blames, enter, entered, leavingTick, onTick, roundAt, tickStep, ticked, turnAfter, votedFor, voteDue}
+use Rattle.seat.specs.Tick.{blames, enter, entered, onTick, roundAt, tickStep, ticked, turnAfter, votedFor, voteDue}
 use Rattle.seat.specs.declared.answer.Word.{Word}
 use Rattle.seat.specs.declared.answer.Word.the-variants.{Accepted, Idle, Noted, Voted}
 use Rattle.seat.specs.declared.state.Note.{Note}
@@ -39,7 +36,7 @@ use Rattle.seat.specs.declared.state.State.{State}
 use Rattle.seat.specs.declared.state.Terms.{Terms}
 use Rattle.seat.specs.declared.taking.Verdict.{Verdict}
 use Rattle.seat.specs.declared.taking.Verdict.the-variants.{Known, New}
-use Rattle.agreement.proofs.OneStep.{gives-carried, gives-twice, on-from-test}
+use Rattle.agreement.proofs.OneStep.{gives-carried, gives-twice}
 
 module _ {L : ℕ} {R : Type 0} (k : Kind L R) where
   -- the note has the seat's rank, or while leaving that of the next view's first turn, where it isn't accepted yet
@@ -75,8 +72,8 @@ module _ {L S : ℕ} {R : Type 0} (k : Kind L R) where
       let v : State S R = turnRises (min (s .turn + 1) 4294967295) t in
       let u : State S R = cond (here s (c .block)) v t in
       let g : RoundSane u =
-          cond-both (here s (c .block)) v t RoundSane
-          (λ e. (tt, rows-on (s .phase) noSeals (s .blames) (and-parts (isOn (s .phase)) _ e .0))) (λ _. h) in
+      cond-both (here s (c .block)) v t RoundSane
+      (λ e. (tt, rows-on (s .phase) noSeals (s .blames) (and-parts (isOn (s .phase)) _ e .0))) (λ _. h) in
       cond-both (commits s (c .block)) (withCommitted (c .block) u) u RoundSane (λ _. g) (λ _. g)
 
   taken-sane : (s : State S R) (bs : List (Block R)) (c : Certificate R (List ℕ)) (sending : Sending R) (v : Verdict) → RoundSane s → Sane (taken s bs c sending v)

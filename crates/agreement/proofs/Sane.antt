@@ -1,24 +1,23 @@
 -- What holds of every sound seat at every moment of a run.
 use Prim.Native.Nat.{ℕ, zero, suc, _+_, _-_, _*_, _^_, _≤_, _<_, min}
 use mathlib.Core.Path.{_≡_, refl, sym, ap, subst, _∙_}
-use mathlib.Core.Bool.{Bool, true, false, cond, not, _&&_, _||_}
+use mathlib.Core.Bool.{Bool, true, cond, not, _&&_, _||_}
 use mathlib.Core.List.{List, [], _∷_, _++_}
 use mathlib.Core.Logic.{_⊎_, inl, inr}
 use native.Mathlib.Omega.{arith}
-use lib.Dec.{eqb, leb, ltb}
-use Rattle.std.proofs.shelf.Tests.{and-parts, cases-bool, cases-eq, cases-lt, cond-both, cond-true, cond-false, eqb-true, eqb-false, false≢true}
+use lib.Dec.{eqb, ltb}
+use Rattle.std.proofs.shelf.Tests.{cases-lt, cond-both, eqb-true, eqb-false, false≢true}
 use Rattle.std.specs.declared.option.Option.{Option}
 use Rattle.std.specs.declared.option.Option.the-variants.{Some, None}
 use Rattle.content.specs.Kinds.{Kind}
-use Rattle.wire.specs.Lawful.{LawfulBlock, TwoBytes}
-use Rattle.wire.specs.Ranks.{Place, atLeast, below}
+use Rattle.wire.specs.Lawful.{LawfulBlock}
+use Rattle.wire.specs.Ranks.{atLeast, below}
 use Rattle.wire.specs.declared.block.Block.{Block}
 use Rattle.wire.specs.declared.block.Rank.{Rank}
 use Rattle.wire.specs.declared.message.Certificate.{Certificate}
 use Rattle.shelf.specs.Ancestry.{Grown, MayFollow, Parent}
-use Rattle.shelf.specs.Blocks.{find, topTurn}
+use Rattle.shelf.specs.Blocks.{topTurn}
 use Rattle.shelf.proofs.Ancestry.{find-rank, grown-push}
-use Rattle.seat.specs.HandIn.{lastView}
 use Rattle.seat.specs.Parts.{isOn}
 use Rattle.seat.specs.TakeIn.{better, keepBest}
 use Rattle.seat.specs.Tick.{placeOf, turnAfter}
@@ -26,7 +25,7 @@ use Rattle.seat.specs.declared.state.Best.{Best}
 use Rattle.seat.specs.declared.state.Phase.{Phase}
 use Rattle.seat.specs.declared.state.Phase.the-variants.{On, Leaving}
 use Rattle.agreement.proofs.Facts.{OnShelf}
-use Rattle.agreement.proofs.OneStep.{Core, arrived, hereIn, later, left, on-from-test, shelved}
+use Rattle.agreement.proofs.OneStep.{Core, arrived, hereIn, later, left, shelved}
 use Rattle.agreement.proofs.Shelves.{AllLawful, TopOf, TurnOn, lawful-first, lawful-later, none-there, on-append, on-from-find, on-last, on-pushed, top-of, turns-down}
 
 module _ {L : ℕ} {R : Type 0} (k : Kind L R) where
@@ -96,13 +95,14 @@ module _ {L : ℕ} {R : Type 0} (k : Kind L R) where
   -- entering a view: one above the highest turn
   turns-top : (v : ℕ) (bs : List (Block R)) (o : Option ℕ) → Grown bs → AllLawful k bs → TopOf v bs o → Turns v (turnAfter o) bs
   turns-top v bs None g l h = ((λ t z. absurd (omega arith)), λ b on e. absurd (h b on e))
-  turns-top v bs (Some u) g l h =
-      ((λ t z. let e : u ≡ t + (u - t) = omega arith in turns-down k bs g l v (u - t) t (subst (λ y. TurnOn v y bs) e (h .0))),
-      λ b on e. let z : b .rank .turn ≤ u = h .1 b on e in omega arith)
+  turns-top v bs (Some u) g l h = (
+    (λ t z. let e : u ≡ t + (u - t) = omega arith in turns-down k bs g l v (u - t) t (subst (λ y. TurnOn v y bs) e (h .0))),
+    λ b on e. let z : b .rank .turn ≤ u = h .1 b on e in omega arith,
+  )
 
-  pub sane-arrived : (delta since v : ℕ) (x : Core R) (bs : List (Block R)) → v ≤ 65535 → CoreSane delta x bs →
+  pub sane-arrived : (delta v : ℕ) (x : Core R) (bs : List (Block R)) → v ≤ 65535 → CoreSane delta x bs →
       CoreSane delta (arrived v (turnAfter (topTurn v bs)) x) bs
-  sane-arrived delta since v x bs small h = record {
+  sane-arrived delta v x bs small h = record {
     grown = h .grown;
     lawful = h .lawful;
     phase-fits = (small, turns-top v bs (topTurn v bs) (h .grown) (h .lawful) (top-of v bs));
@@ -124,6 +124,7 @@ module _ {L : ℕ} {R : Type 0} (k : Kind L R) where
     where
       same-parts : (p q : Rank) → p .view ≡ q .view → p .turn ≡ q .turn → p ≡ q
       same-parts p q f g = λ i. record { view = f i; turn = g i }
+
       not-past : (t : ℕ) → t ≡ b .rank .turn → (b .height ≡ 1) ⊎ ((p : Block R) × Parent bs b p) → t ≤ turn
       not-past zero q p = omega arith
       not-past (suc t) q (inl one) =
@@ -178,34 +179,39 @@ module _ {L : ℕ} {R : Type 0} (k : Kind L R) where
   turn-kept v t bs b h = (h .0, on-append (h .0) bs (b ∷ []) (h .1), h .2, h .3)
 
   turns-other : (v turn : ℕ) (bs : List (Block R)) (b : Block R) → (v ≡ b .rank .view → ⊥) → Turns v turn bs → Turns v turn (bs ++ b ∷ [])
-  turns-other v turn bs b other h =
-      ((λ t z. turn-kept v t bs b (h .0 t z)), λ x on e.
-      elim (on-pushed x b bs on) [ inl old ↦ h .1 x old e | inr same ↦ absurd (other (sym e ∙ ap (λ (y : Block R). y .rank .view) (sym same))) ])
+  turns-other v turn bs b other h = (
+    (λ t z. turn-kept v t bs b (h .0 t z)),
+    λ x on e.
+        elim (on-pushed x b bs on) [ inl old ↦ h .1 x old e | inr same ↦ absurd (other (sym e ∙ ap (λ (y : Block R). y .rank .view) (sym same))) ],
+  )
 
   turns-next : (v turn : ℕ) (bs : List (Block R)) (b : Block R) → b .rank .view ≡ v → b .rank .turn ≡ turn → Turns v turn bs → Turns v (turn + 1) (bs ++ b ∷ [])
-  turns-next v turn bs b e q h =
-      ((λ t z.
-      elim (cases-lt t turn) [
-        | inl low ↦ turn-kept v t bs b (h .0 t low)
-        | inr high ↦ (let s : turn ≡ t = omega arith in (b, on-last b bs, e, q ∙ s))
-      ]),
-      λ x on f.
-      elim (on-pushed x b bs on) [
-        | inl old ↦ (let l : x .rank .turn < turn = h .1 x old f in omega arith)
-        | inr same ↦ (let l : b .rank .turn ≡ x .rank .turn = ap (λ (y : Block R). y .rank .turn) same in omega arith)
-      ])
+  turns-next v turn bs b e q h = (
+    (λ t z.
+        elim (cases-lt t turn) [
+          | inl low ↦ turn-kept v t bs b (h .0 t low)
+          | inr high ↦ (let s : turn ≡ t = omega arith in (b, on-last b bs, e, q ∙ s))
+        ]),
+    λ x on f.
+        elim (on-pushed x b bs on) [
+          | inl old ↦ (let l : x .rank .turn < turn = h .1 x old f in omega arith)
+          | inr same ↦ (let l : b .rank .turn ≡ x .rank .turn = ap (λ (y : Block R). y .rank .turn) same in omega arith)
+        ],
+  )
 
   phase-shelved : (delta : ℕ) (ph : Phase) (now view turn : ℕ) (bs : List (Block R)) (b : Block R) → Grown bs → LawfulBlock k b → MayFollow bs b →
       PhaseFits delta ph now view turn bs → PhaseFits delta ph now view (cond (isOn ph && eqb view (b .rank .view)) (min (turn + 1) 4294967295) turn) (bs ++ b ∷ [])
-  phase-shelved delta On now view turn bs b g l m h =
-      (h .0, cond-both (eqb view (b .rank .view)) (min (turn + 1) 4294967295) turn (λ t. Turns view t (bs ++ b ∷ []))
-      (λ t.
-      let e : b .rank .view ≡ view = sym (eqb-true view (b .rank .view) t) in
-      let q : b .rank .turn ≡ turn = new-turn view turn bs b g l m (h .1) e in
-      let small : b .rank .turn < 2 ^ 16 = l .turn in
-      let z : turn + 1 ≡ min (turn + 1) 4294967295 = omega arith in
-      subst (λ t. Turns view t (bs ++ b ∷ [])) z (turns-next view turn bs b e q (h .1)))
-      (λ f. turns-other view turn bs b (eqb-false view (b .rank .view) f) (h .1)))
+  phase-shelved delta On now view turn bs b g l m h = (
+    h .0,
+    cond-both (eqb view (b .rank .view)) (min (turn + 1) 4294967295) turn (λ t. Turns view t (bs ++ b ∷ []))
+        (λ t.
+        let e : b .rank .view ≡ view = sym (eqb-true view (b .rank .view) t) in
+        let q : b .rank .turn ≡ turn = new-turn view turn bs b g l m (h .1) e in
+        let small : b .rank .turn < 2 ^ 16 = l .turn in
+        let z : turn + 1 ≡ min (turn + 1) 4294967295 = omega arith in
+        subst (λ t. Turns view t (bs ++ b ∷ [])) z (turns-next view turn bs b e q (h .1)))
+        (λ f. turns-other view turn bs b (eqb-false view (b .rank .view) f) (h .1)),
+  )
   phase-shelved delta (Leaving since) now view turn bs b g l m h = h
 
   pub sane-shelved : (delta : ℕ) (c : Certificate R (List ℕ)) (spoiled : Bool) (x : Core R) (bs : List (Block R)) → LawfulBlock k (c .block) →

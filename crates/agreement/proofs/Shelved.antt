@@ -1,26 +1,23 @@
 -- The shelf of one seat: it only grows, has lawful blocks with their parents, one a rank, and each was sent when it was taken in.
-use Prim.Native.Nat.{ℕ, zero, suc, _+_, _-_, _*_, _≤_, _<_}
-use mathlib.Core.Path.{_≡_, refl, sym, ap, subst, _∙_}
-use mathlib.Core.Bool.{Bool, true, false, cond}
-use mathlib.Core.List.{List, [], _∷_, _++_}
-use mathlib.Core.Logic.{_⊎_, inl, inr}
+use Prim.Native.Nat.{ℕ, _≤_, _<_}
+use mathlib.Core.Path.{_≡_, refl, sym, subst}
+use mathlib.Core.List.{[], _∷_}
+use mathlib.Core.Logic.{inl, inr}
 use native.Mathlib.Omega.{arith}
 use Rattle.std.proofs.shelf.Tests.{cases-lt}
-use Rattle.std.specs.declared.option.Option.{Option}
-use Rattle.std.specs.declared.option.Option.the-variants.{Some, None}
-use Rattle.std.specs.declared.result.Result.the-variants.{Ok, Err}
+use Rattle.std.specs.declared.option.Option.the-variants.{Some}
+use Rattle.std.specs.declared.result.Result.the-variants.{Ok}
 use Rattle.content.specs.Kinds.{Kind}
 use Rattle.wire.specs.Lawful.{LawfulBlock}
 use Rattle.wire.specs.declared.block.Block.{Block}
 use Rattle.shelf.specs.Blocks.{readBelow}
-use Rattle.seat.specs.declared.state.Phase.the-variants.{On, Leaving}
 use Rattle.seat.specs.declared.state.State.{State}
 use Rattle.agreement.specs.Committed.{Takes}
 use Rattle.agreement.specs.History.{Desk, Event, History, desk}
 use Rattle.agreement.specs.Run.{Driven, Run}
 use Rattle.agreement.specs.Setting.{Lawful, Setting, Sound}
 use Rattle.agreement.proofs.Facts.{AsCertificate, Descends, Earlier, OnIn, OnShelf, ParentOn, SendsSome, Was, shelf, state}
-use Rattle.agreement.proofs.Invariant.{Ordered, ordered, whose}
+use Rattle.agreement.proofs.Invariant.{ordered, whose}
 use Rattle.agreement.proofs.Sane.{PhaseFits, Turns}
 use Rattle.agreement.proofs.Shelves.{lawful-high, on-append, on-pushed, one-rank, parent-on, reads-below}
 use Rattle.agreement.proofs.Steps.{Step, departs, desk-none, desk-other, enters, rests, step, takes, ticks}
@@ -29,8 +26,8 @@ use Rattle.agreement.proofs.Time.{kept-later, was-more}
 module _ {L : ℕ} {R : Type 0} (S : ℕ) (k : Kind L R) (w : Setting) where
   grows-step : (e : Event) (p : History) (d : Desk S R) (b : Block R) → Step S k w e p d → OnShelf b (shelf S k w (e .who) p) → OnShelf b (d .blocks)
   grows-step e p d b (rests c f) h = subst (OnShelf b) (sym f) h
-  grows-step e p d b (ticks c f short) h = subst (OnShelf b) (sym f) h
-  grows-step e p d b (enters since g long c f) h = subst (OnShelf b) (sym f) h
+  grows-step e p d b (ticks call c f short) h = subst (OnShelf b) (sym f) h
+  grows-step e p d b (enters call since g long c f) h = subst (OnShelf b) (sym f) h
   grows-step e p d b (takes c good follows co f took sends) h = subst (OnShelf b) (sym f) (on-append b (shelf S k w (e .who) p) (c .block ∷ []) h)
   grows-step e p d b (departs v small leads c f sends) h = subst (OnShelf b) (sym f) h
 
@@ -87,8 +84,8 @@ module _ {L : ℕ} {R : Type 0} (S : ℕ) (k : Kind L R) (w : Setting) where
     sent-step : (e : Event) (p : History) (b : Block R) → Driven S k w e p → Step S k w e p (desk S k w (e .who) (e ∷ p)) →
         (OnShelf b (shelf S k w (e .who) p) → Was (Sent (e .who) b) p) → OnShelf b (shelf S k w (e .who) (e ∷ p)) → Was (Sent (e .who) b) (e ∷ p)
     sent-step e p b driven (rests c f) old on = was-more _ e p (old (subst (OnShelf b) f on))
-    sent-step e p b driven (ticks c f short) old on = was-more _ e p (old (subst (OnShelf b) f on))
-    sent-step e p b driven (enters since g long c f) old on = was-more _ e p (old (subst (OnShelf b) f on))
+    sent-step e p b driven (ticks call c f short) old on = was-more _ e p (old (subst (OnShelf b) f on))
+    sent-step e p b driven (enters call since g long c f) old on = was-more _ e p (old (subst (OnShelf b) f on))
     sent-step e p b driven (departs v small leads c f sends) old on = was-more _ e p (old (subst (OnShelf b) f on))
     sent-step e p b driven (takes c good follows co f took sends) old on =
         elim (on-pushed b (c .block) (shelf S k w (e .who) p) (subst (OnShelf b) f on)) [

@@ -1,28 +1,27 @@
 -- Grown shelves of lawful blocks: which blocks are on them, and which turns of a view.
-use Prim.Native.Nat.{ℕ, zero, suc, _+_, _-_, _*_, _≤_, _<_, max}
+use Prim.Native.Nat.{ℕ, zero, suc, _+_, _-_, _≤_, _<_, max}
 use mathlib.Core.Path.{_≡_, refl, sym, ap, subst, _∙_}
-use mathlib.Core.Bool.{Bool, true, false, cond, not, _&&_, _||_}
+use mathlib.Core.Bool.{true}
 use mathlib.Core.List.{List, [], _∷_, _++_}
 use mathlib.Core.Logic.{_⊎_, inl, inr}
 use native.Mathlib.Omega.{arith}
-use lib.Dec.{eqb, leb, ltb}
-use Rattle.std.proofs.shelf.Lists.{append-assoc, append-nil}
-use Rattle.std.proofs.shelf.Tests.{cases-bool, cases-eq, cond-true, cond-false, cond-both, cases-lt, and-parts, eqb-true, eqb-false, eq-eqb, le-ltb, ltb-false, ne-eqb}
+use lib.Dec.{eqb, ltb}
+use Rattle.std.proofs.shelf.Lists.{append-assoc}
+use Rattle.std.proofs.shelf.Tests.{cases-bool, cond-true, cond-false, cond-both, cases-lt, eqb-true, eqb-false, eq-eqb, le-ltb, ltb-false, ne-eqb}
 use Rattle.std.specs.declared.option.Option.{Option}
 use Rattle.std.specs.declared.option.Option.the-variants.{Some, None}
 use Rattle.std.specs.declared.result.Result.{Result}
 use Rattle.std.specs.declared.result.Result.the-variants.{Ok, Err}
-use Rattle.std.specs.shelf.Text.{sameBytes}
 use Rattle.content.specs.Kinds.{Kind}
 use Rattle.content.specs.declared.refusal.Refusal.{Refusal}
 use Rattle.wire.specs.Lawful.{LawfulBlock}
-use Rattle.wire.specs.Layout.{lawfulNumbers, sameBlock}
+use Rattle.wire.specs.Layout.{lawfulNumbers}
 use Rattle.wire.specs.Ranks.{sameRank}
 use Rattle.wire.specs.declared.block.Block.{Block}
 use Rattle.wire.specs.declared.block.Rank.{Rank}
-use Rattle.shelf.specs.Ancestry.{Grown, GrownOn, MayFollow, Parent, Steps}
+use Rattle.shelf.specs.Ancestry.{Grown, GrownOn, Steps}
 use Rattle.shelf.specs.Blocks.{answered, belowBlock, climb, find, higher, readBelow, topTurn}
-use Rattle.shelf.proofs.Ancestry.{climb-from-steps, find-append-none, find-append-some, find-rank, height-positive, parent-there, same-ranks, steps-height, steps-there}
+use Rattle.shelf.proofs.Ancestry.{climb-from-steps, find-append-none, find-rank, height-positive, parent-there, steps-height, steps-there}
 use Rattle.shelf.proofs.Scans.{find-here, find-none, find-past}
 use Rattle.agreement.proofs.Facts.{Descends, OnShelf, self, up}
 
@@ -76,7 +75,7 @@ module _ {R : Type 0} where
   find-grown before [] b g h = absurd h
   find-grown before (x ∷ bs) b g (inl e) =
       let f : find (x .rank) (before ++ (x ∷ bs)) ≡ Some x =
-          find-append-none (x .rank) before (x ∷ bs) (g .0 .0) ∙ find-here (x .rank) x bs (rank-itself (x .rank)) in
+      find-append-none (x .rank) before (x ∷ bs) (g .0 .0) ∙ find-here (x .rank) x bs (rank-itself (x .rank)) in
       subst (λ (y : Block R). find (y .rank) (before ++ (x ∷ bs)) ≡ Some y) e f
   find-grown before (x ∷ bs) b g (inr h) =
       subst (λ xs. find (b .rank) xs ≡ Some b) (append-assoc before (x ∷ []) bs) (find-grown (before ++ x ∷ []) bs b (g .1) h)
@@ -168,12 +167,14 @@ module _ {R : Type 0} where
   top-here : (v : ℕ) (x : Block R) (bs : List (Block R)) (o : Option ℕ) → x .rank .view ≡ v → TopOf v bs o → TopOf v (x ∷ bs) (higher (x .rank .turn) o)
   top-here v x bs None e h =
       ((x, inl refl, e, refl), λ b on q. elim on [ inl s ↦ (let l : x .rank .turn ≡ b .rank .turn = ap (λ (y : Block R). y .rank .turn) s in omega arith) | inr r ↦ absurd (h b r q) ])
-  top-here v x bs (Some t) e h =
-      (greater (max (x .rank .turn) t) refl, λ b on q.
-      elim on [
-        | inl s ↦ (let l : x .rank .turn ≡ b .rank .turn = ap (λ (y : Block R). y .rank .turn) s in omega arith)
-        | inr r ↦ (let l : b .rank .turn ≤ t = h .1 b r q in omega arith)
-      ])
+  top-here v x bs (Some t) e h = (
+    greater (max (x .rank .turn) t) refl,
+    λ b on q.
+        elim on [
+          | inl s ↦ (let l : x .rank .turn ≡ b .rank .turn = ap (λ (y : Block R). y .rank .turn) s in omega arith)
+          | inr r ↦ (let l : b .rank .turn ≤ t = h .1 b r q in omega arith)
+        ],
+  )
     where
       greater : (m : ℕ) → m ≡ max (x .rank .turn) t → TurnOn v m (x ∷ bs)
       greater m q =
@@ -185,9 +186,11 @@ module _ {R : Type 0} where
   top-past : (v : ℕ) (x : Block R) (bs : List (Block R)) (o : Option ℕ) → (x .rank .view ≡ v → ⊥) → TopOf v bs o → TopOf v (x ∷ bs) o
   top-past v x bs None e h = λ b on q.
       elim on [ inl s ↦ e (ap (λ (y : Block R). y .rank .view) s ∙ q) | inr r ↦ h b r q ]
-  top-past v x bs (Some t) e h =
-      (turn-more v t x bs (h .0), λ b on q.
-      elim on [ inl s ↦ absurd (e (ap (λ (y : Block R). y .rank .view) s ∙ q)) | inr r ↦ h .1 b r q ])
+  top-past v x bs (Some t) e h = (
+    turn-more v t x bs (h .0),
+    λ b on q.
+        elim on [ inl s ↦ absurd (e (ap (λ (y : Block R). y .rank .view) s ∙ q)) | inr r ↦ h .1 b r q ],
+  )
 
   pub top-of : (v : ℕ) (bs : List (Block R)) → TopOf v bs (topTurn v bs)
   unfolding topTurn

@@ -1,48 +1,47 @@
 -- What one call of a history does to its seat.
-use Prim.Native.Nat.{ℕ, zero, suc, _+_, _-_, _*_, _≤_, _<_, min}
+use Prim.Native.Nat.{ℕ, _+_, _-_, _*_, _≤_, _<_, min}
 use mathlib.Core.Path.{_≡_, refl, sym, ap, subst, _∙_}
-use mathlib.Core.Bool.{Bool, true, false, cond, not, _&&_, _||_}
+use mathlib.Core.Bool.{Bool, true}
 use mathlib.Core.List.{List, [], _∷_, _++_}
 use mathlib.Core.Logic.{_⊎_, inl, inr}
-use native.Mathlib.Omega.{arith}
-use lib.Dec.{eqb, leb, ltb}
-use Rattle.std.proofs.shelf.Tests.{cases-eq, cond-true, cond-false, eq-eqb, ne-eqb}
+use lib.Dec.{leb, ltb}
+use Rattle.std.proofs.shelf.Tests.{cond-true, cond-false, eq-eqb, ne-eqb}
 use Rattle.std.specs.declared.option.Option.{Option}
-use Rattle.std.specs.declared.option.Option.the-variants.{Some, None}
+use Rattle.std.specs.declared.option.Option.the-variants.{Some}
 use Rattle.std.specs.declared.result.Result.{Result}
 use Rattle.std.specs.declared.result.Result.the-variants.{Ok, Err}
-use Rattle.content.specs.Kinds.{Kind, Bytes}
+use Rattle.content.specs.Kinds.{Kind}
 use Rattle.content.specs.declared.refusal.Refusal.{Refusal}
 use Rattle.content.specs.declared.refusal.Refusal.the-variants.{LastTick, SlipOut, SmallOutbox}
 use Rattle.wire.specs.Asked.{asked, judge}
 use Rattle.wire.specs.Lawful.{LawfulBlock, LawfulParts}
 use Rattle.wire.specs.Layout.{messageBytes}
-use Rattle.wire.specs.Reading.{next, readParts}
-use Rattle.wire.specs.declared.block.Block.{Block}
+use Rattle.wire.specs.Reading.{readParts}
 use Rattle.wire.specs.declared.message.Certificate.{Certificate}
 use Rattle.wire.specs.declared.message.Parts.{Parts}
-use Rattle.wire.specs.declared.message.Parts.the-variants.{Proposal, Vote, Blame, Certified, Notice}
+use Rattle.wire.specs.declared.message.Parts.the-variants.{Certified, Notice}
 use Rattle.wire.proofs.OneForm.{lawful-from-read}
-use Rattle.wire.proofs.Steps.{Gives, gives-err, gives-ok, gives-if, gives-next, gives-unless, gives-either}
+use Rattle.wire.proofs.Steps.{Gives, gives-ok, gives-next, gives-unless}
 use Rattle.shelf.specs.Ancestry.{MayFollow}
 use Rattle.shelf.specs.Blocks.{topTurn}
-use Rattle.seat.specs.Calls.{guarded, handIn, lastTickOf, leastOutbox, offer as offerCall, opened, stateAfter, blocksAfter, sentStep, tick as tickCall}
-use Rattle.seat.specs.HandIn.{handParts, idle, lastView}
-use Rattle.seat.specs.Offer.{offerStep}
+use Rattle.seat.specs.Calls.{guarded, lastTickOf, leastOutbox, opened, stateAfter, blocksAfter}
+use Rattle.seat.specs.HandIn.{handParts, lastView}
 use Rattle.seat.specs.Parts.{newState, withSlip}
 use Rattle.seat.specs.Sends.{Outcome, Sending, relay, sendingBytes, write}
 use Rattle.seat.specs.Tick.{tickStep, turnAfter}
-use Rattle.seat.specs.declared.state.Phase.{Phase}
 use Rattle.seat.specs.declared.state.Phase.the-variants.{On, Leaving}
 use Rattle.seat.specs.declared.state.State.{State}
-use Rattle.seat.specs.declared.state.Terms.{Terms}
 use Rattle.agreement.specs.Committed.{Takes}
-use Rattle.agreement.specs.History.{Call, Desk, Did, Event, History, Is, Sends, after, desk, hand, inboxOf, offer, outcome, result, sent, tick}
+use Rattle.agreement.specs.History.{Call, Desk, Event, History, Is, after, desk, hand, offer, outcome, result, sent, tick}
 use Rattle.agreement.specs.Run.{Driven}
 use Rattle.agreement.specs.Setting.{Lawful, Setting, Sound}
-use Rattle.agreement.proofs.Facts.{AsCertificate, AsNotice, SendsSome, shelf, state}
+use Rattle.agreement.proofs.Facts.{AsCertificate, AsNotice, SendsSome, Ticks, shelf, state}
 use Rattle.agreement.proofs.Messages.{as-certificate-relayed, as-certificate-written, as-notice-relayed, as-notice-written}
-use Rattle.agreement.proofs.OneStep.{CertificateSent, Core, Effect, NoticeSent, TickEffect, arrived, arrives, core, goes, later, leaves, left, message-effect, offer-effect, shelved, shelves, stays, tick-effect}
+use Rattle.agreement.proofs.OneStep.{CertificateSent, Effect, TickEffect, arrived, arrives, core, goes, later, leaves, left, message-effect, offer-effect, shelved, shelves, stays, tick-effect}
+
+-- a call at a seat
+abbrev pub event : ℕ → Call → Event
+event i c = record { who = i; what = c }
 
 -- a call that is carried out had no slip out and an outbox of enough bytes
 pub gives-guarded : {S : ℕ} {R X : Type 0} {Q : X → Type 0} (s : State S R) (room : ℕ) (r : Result X Refusal) → Gives r Q → Gives (guarded s room r) Q
@@ -81,14 +80,14 @@ module _ {L : ℕ} {R : Type 0} (S : ℕ) (k : Kind L R) (w : Setting) where
   -- premises
   pub data Step (e : Event) (p : History) (d : Desk S R) : Type 0 where
     rests : core (d .state) ≡ core (state S k w (e .who) p) → d .blocks ≡ shelf S k w (e .who) p → Step e p d
-    ticks : core (d .state) ≡ later (core (state S k w (e .who) p)) → d .blocks ≡ shelf S k w (e .who) p →
+    ticks : Ticks (e .what) → core (d .state) ≡ later (core (state S k w (e .who) p)) → d .blocks ≡ shelf S k w (e .who) p →
         ((since : ℕ) → state S k w (e .who) p .phase ≡ Leaving since →
         (state S k w (e .who) p .now + 1) - since < 2 * w .terms (e .who) .delta + 1) → Step e p d
-    enters : (since : ℕ) → state S k w (e .who) p .phase ≡ Leaving since →
+    enters : Ticks (e .what) → (since : ℕ) → state S k w (e .who) p .phase ≡ Leaving since →
         2 * w .terms (e .who) .delta + 1 ≤ (state S k w (e .who) p .now + 1) - since →
         core (d .state) ≡
-            arrived (min (state S k w (e .who) p .view + 1) lastView)
-            (turnAfter (topTurn (min (state S k w (e .who) p .view + 1) lastView) (shelf S k w (e .who) p))) (core (state S k w (e .who) p)) →
+        arrived (min (state S k w (e .who) p .view + 1) lastView)
+        (turnAfter (topTurn (min (state S k w (e .who) p .view + 1) lastView) (shelf S k w (e .who) p))) (core (state S k w (e .who) p)) →
         d .blocks ≡ shelf S k w (e .who) p → Step e p d
     takes : (c : Certificate R (List ℕ)) → (Lawful w → Driven S k w e p → LawfulBlock k (c .block)) →
         MayFollow (shelf S k w (e .who) p) (c .block) →
@@ -99,9 +98,6 @@ module _ {L : ℕ} {R : Type 0} (S : ℕ) (k : Kind L R) (w : Setting) where
         ((state S k w (e .who) p .view < v) ⊎ ((state S k w (e .who) p .phase ≡ On) × (state S k w (e .who) p .view ≡ v))) →
         core (d .state) ≡ left v (core (state S k w (e .who) p)) → d .blocks ≡ shelf S k w (e .who) p →
         (Lawful w → Driven S k w e p → SendsSome S k w (AsNotice S k w v) e p) → Step e p d
-
-  abbrev event : ℕ → Call → Event
-  event i c = record { who = i; what = c }
 
   -- the seat after a call that was carried out with an outcome
   abbrev done : Outcome S R → Desk S R
@@ -126,22 +122,30 @@ module _ {L : ℕ} {R : Type 0} (S : ℕ) (k : Kind L R) (w : Setting) where
 
     certificate-sends : (c : Certificate R (List ℕ)) → (Lawful w → Driven S k w this p → LawfulBlock k (c .block)) →
         CertificateSent m c (o .sends .certificate) → Lawful w → Driven S k w this p → SendsSome S k w (AsCertificate S k w (c .block)) this p
-    certificate-sends c lawful (inl x) l d =
-        (messageBytes k (Certified c), (o, did, inl (sent-as inbox (o .sends .certificate) (write (Certified c)) x)),
-        as-certificate-written S k w c (lawful l d))
-    certificate-sends c lawful (inr x) l d =
-        (inbox, (o, did, inl (sent-as inbox (o .sends .certificate) relay (x .0))),
-        as-certificate-relayed S k w inbox c (reads-here i inbox (Certified c) l (d .at-sound) (reads ∙ ap Ok (x .1))))
+    certificate-sends c lawful (inl x) l d = (
+      messageBytes k (Certified c),
+      (o, did, inl (sent-as inbox (o .sends .certificate) (write (Certified c)) x)),
+      as-certificate-written S k w c (lawful l d),
+    )
+    certificate-sends c lawful (inr x) l d = (
+      inbox,
+      (o, did, inl (sent-as inbox (o .sends .certificate) relay (x .0))),
+      as-certificate-relayed S k w inbox c (reads-here i inbox (Certified c) l (d .at-sound) (reads ∙ ap Ok (x .1))),
+    )
 
     notice-sends : (v mask : ℕ) (seals : List ℕ) → (Lawful w → Driven S k w this p → v < 65535) →
         ((o .sends .message ≡ Some (write (Notice v mask seals))) ⊎ ((o .sends .message ≡ Some relay) × (m ≡ Notice v mask seals))) →
         Lawful w → Driven S k w this p → SendsSome S k w (AsNotice S k w v) this p
-    notice-sends v mask seals small (inl x) l d =
-        (messageBytes k (Notice v mask seals), (o, did, inr (inl (sent-as inbox (o .sends .message) (write (Notice v mask seals)) x))),
-        as-notice-written S k w v mask seals (small l d))
-    notice-sends v mask seals small (inr x) l d =
-        (inbox, (o, did, inr (inl (sent-as inbox (o .sends .message) relay (x .0)))),
-        as-notice-relayed S k w inbox v mask seals (reads-here i inbox (Notice v mask seals) l (d .at-sound) (reads ∙ ap Ok (x .1))))
+    notice-sends v mask seals small (inl x) l d = (
+      messageBytes k (Notice v mask seals),
+      (o, did, inr (inl (sent-as inbox (o .sends .message) (write (Notice v mask seals)) x))),
+      as-notice-written S k w v mask seals (small l d),
+    )
+    notice-sends v mask seals small (inr x) l d = (
+      inbox,
+      (o, did, inr (inl (sent-as inbox (o .sends .message) relay (x .0)))),
+      as-notice-relayed S k w inbox v mask seals (reads-here i inbox (Notice v mask seals) l (d .at-sound) (reads ∙ ap Ok (x .1))),
+    )
 
     lawful-here : Driven S k w this p → LawfulParts k S (w .terms i .seats .n) m
     lawful-here d = lawful-from-read k S (w .terms i .seats .n) inbox m (d .in-bytes) reads
@@ -180,8 +184,8 @@ module _ {L : ℕ} {R : Type 0} (S : ℕ) (k : Kind L R) (w : Setting) where
       gives-ok (λ o. Step this p (done o)) t (tick-step t (tick-effect (w .terms i) (d .state) (d .blocks))))))
     where
       tick-step : (t : Outcome S R) → TickEffect (w .terms i) (state S k w i p) (shelf S k w i p) t → Step (event i (tick room)) p (done t)
-      tick-step t (goes c b short) = ticks c b short
-      tick-step t (arrives since ph long c b) = enters since ph long c b
+      tick-step t (goes c b short) = ticks tt c b short
+      tick-step t (arrives since ph long c b) = enters tt since ph long c b
   step-of i (offer content room) p =
       let d : Desk S R = desk S k w i p in
       let this : Event = event i (offer content room) in

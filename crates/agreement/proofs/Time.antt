@@ -1,29 +1,23 @@
 -- The time of one seat: its stage and its clock never fall, it leaves a view for 2D + 1 ticks, and how it entered its view.
-use Prim.Native.Nat.{ℕ, zero, suc, _+_, _-_, _*_, _≤_, _<_, min}
+use Prim.Native.Nat.{ℕ, _+_, _*_, _≤_, _<_, min}
 use mathlib.Core.Path.{_≡_, refl, sym, ap, subst, _∙_}
 use mathlib.Core.Bool.{Bool, true, false, cond}
-use mathlib.Core.List.{List, [], _∷_, _++_}
+use mathlib.Core.List.{[], _∷_, _++_}
 use mathlib.Core.Logic.{_⊎_, inl, inr}
 use native.Mathlib.Omega.{arith}
-use Rattle.std.proofs.shelf.Tests.{cond-both}
-use Rattle.std.specs.declared.option.Option.{Option}
-use Rattle.std.specs.declared.option.Option.the-variants.{Some, None}
 use Rattle.content.specs.Kinds.{Kind}
-use Rattle.wire.specs.Ranks.{Place, atLeast}
-use Rattle.wire.specs.declared.block.Block.{Block}
 use Rattle.seat.specs.Parts.{isOn}
-use Rattle.seat.specs.Tick.{placeOf}
 use Rattle.seat.specs.declared.state.Phase.{Phase}
 use Rattle.seat.specs.declared.state.Phase.the-variants.{On, Leaving}
 use Rattle.seat.specs.declared.state.State.{State}
 use Rattle.agreement.specs.History.{Desk, Event, History, clock, desk}
-use Rattle.agreement.specs.Run.{Driven, Moment, Run}
+use Rattle.agreement.specs.Run.{Run}
 use Rattle.agreement.specs.Setting.{Lawful, Setting, Sound}
-use Rattle.agreement.proofs.Facts.{AsNotice, Earlier, Entry, OnIn, OnShelf, SendsSome, Was, shelf, stage, state}
+use Rattle.agreement.proofs.Facts.{Earlier, Ticks, Was, shelf, stage, state}
 use Rattle.agreement.proofs.Invariant.{Ordered, ordered, whose}
-use Rattle.agreement.proofs.OneStep.{Core, core, on-leaving}
+use Rattle.agreement.proofs.OneStep.{Core, on-leaving}
 use Rattle.agreement.proofs.Sane.{PhaseFits}
-use Rattle.agreement.proofs.Steps.{Step, departs, desk-mine, desk-none, desk-other, enters, rests, step, takes, ticks}
+use Rattle.agreement.proofs.Steps.{Step, departs, desk-other, enters, rests, step, takes, ticks}
 
 -- the stage of a core
 abbrev pub stageOf : {R : Type 0} → Core R → ℕ
@@ -70,19 +64,31 @@ module _ {L : ℕ} {R : Type 0} (S : ℕ) (k : Kind L R) (w : Setting) where
       go [] r = base
       go (e ∷ q) r = more e (q ++ p) r (q, refl) (go q (r .1))
 
-  -- the clock never falls
-  clock-step : (e : Event) (p : History) (d : Desk S R) → Step S k w e p d → clock S k w (e .who) p ≤ d .state .now
-  clock-step e p d (rests c b) = let z = ap (λ (x : Core R). x .now) c in omega arith
-  clock-step e p d (ticks c b short) = let z = ap (λ (x : Core R). x .now) c in omega arith
-  clock-step e p d (enters since f long c b) = let z = ap (λ (x : Core R). x .now) c in omega arith
-  clock-step e p d (takes c good follows co b took sends) = let z = ap (λ (x : Core R). x .now) co in omega arith
-  clock-step e p d (departs v small leads c b sends) = let z = ap (λ (x : Core R). x .now) c in omega arith
+  -- only a tick moves a clock, its own seat's, and by one
+  abbrev Moves : ℕ → Event → ℕ → ℕ → Type 0
+  Moves i e before now = (now ≡ before) ⊎ ((e .who ≡ i) × Ticks (e .what) × (now ≡ before + 1))
 
+  clock-step : (e : Event) (p : History) (d : Desk S R) → Step S k w e p d → Moves (e .who) e (clock S k w (e .who) p) (d .state .now)
+  clock-step e p d (rests c b) = inl (ap (λ (x : Core R). x .now) c)
+  clock-step e p d (ticks call c b short) = inr (refl, call, ap (λ (x : Core R). x .now) c)
+  clock-step e p d (enters call since f long c b) = inr (refl, call, ap (λ (x : Core R). x .now) c)
+  clock-step e p d (takes c good follows co b took sends) = inl (ap (λ (x : Core R). x .now) co)
+  clock-step e p d (departs v small leads c b sends) = inl (ap (λ (x : Core R). x .now) c)
+
+  pub clock-moves : (i : ℕ) (e : Event) (p : History) → (clock S k w i (e ∷ p) ≡ clock S k w i p) ⊎
+      ((e .who ≡ i) × Ticks (e .what) × (clock S k w i (e ∷ p) ≡ clock S k w i p + 1))
+  clock-moves i e p =
+      elim (whose (e .who) i) [
+        | inl q ↦ subst (λ j. Moves j e (clock S k w j p) (clock S k w j (e ∷ p))) q (clock-step e p (desk S k w (e .who) (e ∷ p)) (step S k w e p))
+        | inr q ↦ inl (ap (λ (d : Desk S R). d .state .now) (desk-other S k w i e p q))
+      ]
+
+  -- so no clock falls
   clock-next : (i : ℕ) (e : Event) (p : History) → clock S k w i p ≤ clock S k w i (e ∷ p)
   clock-next i e p =
-      elim (whose (e .who) i) [
-        | inl q ↦ subst (λ j. clock S k w j p ≤ clock S k w j (e ∷ p)) q (clock-step e p (desk S k w (e .who) (e ∷ p)) (step S k w e p))
-        | inr q ↦ (let z : clock S k w i (e ∷ p) ≡ clock S k w i p = ap (λ (d : Desk S R). d .state .now) (desk-other S k w i e p q) in omega arith)
+      elim (clock-moves i e p) [
+        | inl q ↦ (let z : clock S k w i (e ∷ p) ≡ clock S k w i p = q in omega arith)
+        | inr q ↦ (let z : clock S k w i (e ∷ p) ≡ clock S k w i p + 1 = q .2 in omega arith)
       ]
 
   pub clock-rises : (i : ℕ) (p h : History) → Earlier p h → clock S k w i p ≤ clock S k w i h
@@ -107,8 +113,8 @@ module _ {L : ℕ} {R : Type 0} (S : ℕ) (k : Kind L R) (w : Setting) where
     -- the stage never falls
     stage-step : (e : Event) (p : History) (d : Desk S R) → Ordered S k w (desk S k w (e .who) p) → Step S k w e p d → stage (state S k w (e .who) p) ≤ stage (d .state)
     stage-step e p d o (rests c b) = let z : stage (d .state) ≡ stage (state S k w (e .who) p) = ap stageOf c in omega arith
-    stage-step e p d o (ticks c b short) = let z : stage (d .state) ≡ stage (state S k w (e .who) p) = ap stageOf c in omega arith
-    stage-step e p d o (enters since f long c b) =
+    stage-step e p d o (ticks call c b short) = let z : stage (d .state) ≡ stage (state S k w (e .who) p) = ap stageOf c in omega arith
+    stage-step e p d o (enters call since f long c b) =
         let v : ℕ = state S k w (e .who) p .view in
         let z : stage (d .state) ≡ 2 * min (v + 1) 65535 = ap stageOf c in
         let y : stage (state S k w (e .who) p) ≡ 2 * v + 1 = stage-leaving (state S k w (e .who) p .phase) since v f in
@@ -142,8 +148,8 @@ module _ {L : ℕ} {R : Type 0} (S : ℕ) (k : Kind L R) (w : Setting) where
     since-step : (e : Event) (p : History) (d : Desk S R) (since : ℕ) → Step S k w e p d → stage (state S k w (e .who) p) ≡ stage (d .state) →
         d .state .phase ≡ Leaving since → state S k w (e .who) p .phase ≡ Leaving since
     since-step e p d since (rests c b) s f = sym (ap (λ (x : Core R). x .phase) c) ∙ f
-    since-step e p d since (ticks c b short) s f = sym (ap (λ (x : Core R). x .phase) c) ∙ f
-    since-step e p d since (enters since' g long c b) s f = absurd (on-leaving since (sym (ap (λ (x : Core R). x .phase) c) ∙ f))
+    since-step e p d since (ticks call c b short) s f = sym (ap (λ (x : Core R). x .phase) c) ∙ f
+    since-step e p d since (enters call since' g long c b) s f = absurd (on-leaving since (sym (ap (λ (x : Core R). x .phase) c) ∙ f))
     since-step e p d since (takes c good follows co b took sends) s f = sym (ap (λ (x : Core R). x .phase) co) ∙ f
     since-step e p d since (departs v small leads c b sends) s f =
         let u : ℕ = state S k w (e .who) p .view in
