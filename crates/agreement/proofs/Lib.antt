@@ -1,1 +1,5 @@
+pub mod Delivery
 pub mod Facts
+pub mod Moments
+pub mod OneBlock
+pub mod Sync
