@@ -1,4 +1,5 @@
 pub mod Delivery
+pub mod Extension
 pub mod Facts
 pub mod Moments
 pub mod OneBlock
