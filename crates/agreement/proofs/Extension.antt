@@ -14,6 +14,7 @@ use Rattle.std.specs.declared.result.Result.the-variants.{Ok, Err}
 use Rattle.content.specs.Kinds.{Kind}
 use Rattle.content.specs.declared.refusal.Refusal.{Refusal}
 use Rattle.wire.specs.Lawful.{LawfulBlock}
+use Rattle.wire.specs.Layout.{lawfulNumbers}
 use Rattle.wire.specs.Ranks.{Place, atLeast, below, parentOf}
 use Rattle.wire.specs.declared.block.Block.{Block}
 use Rattle.wire.specs.declared.block.Rank.{Rank}
@@ -75,6 +76,14 @@ rank-cases a r e =
 
 turn-before : (p r : Rank) (view turn : ℕ) → p .view ≡ view → p .turn + 1 ≡ turn → ((view ≡ r .view) × (r .turn < turn)) ⊎ (r .view < view) → atLeast (Some p) (Some r) ≡ true
 turn-before p r view turn a b c = grind arith
+
+tall-enough : (view turn height pview pturn : ℕ) → lawfulNumbers view turn height pview pturn ≡ true → 1 ≤ height
+tall-enough view turn height pview pturn e = grind arith
+
+-- a number above another comes after one that is not below it
+one-before : (n m : ℕ) → m < n → (u : ℕ) × (n ≡ suc u) × (m ≤ u)
+one-before zero m l = absurd (omega arith)
+one-before (suc u) m l = (u, refl, omega arith)
 
 module _ {L : ℕ} {R : Type 0} (S : ℕ) (k : Kind L R) (w : Setting) where
   among-end : (b : Block R) (bs : List (Block R)) → OnShelf b (bs ++ (b ∷ []))
@@ -173,3 +182,61 @@ module _ {L : ℕ} {R : Type 0} (S : ℕ) (k : Kind L R) (w : Setting) (lawful :
             absurd (omega arith)
         | inr old ↦ entry .locks b (f .shelf-grows j a z b old shelved)
       ]
+
+  -- a block that was voted for, at a later turn, has its parent at or above the rank
+  later-extends : (y : Block R) (r : Rank) → LawfulBlock k y → 0 < y .rank .turn → ((y .rank .view ≡ r .view) × (r .turn < y .rank .turn)) ⊎ (r .view < y .rank .view) →
+      (1 < y .height) × (atLeast (Some (y .parent)) (Some r) ≡ true)
+  later-extends y r law later higher =
+      let (tall, view, turn) = later-turn (y .rank .view) (y .rank .turn) (y .height) (y .parent .view) (y .parent .turn) (law .numbers) later in
+      (tall, turn-before (y .parent) r (y .rank .view) (y .rank .turn) view turn higher)
+
+  -- what sound seats vote for at or above a committed block is that block, or has its parent at or above it
+  pub extends : (i : ℕ) (b y : Block R) (e : Event) (p h : History) → Run S k w h → Clean S k w h → Sound w i → Earlier (e ∷ p) h → Committing i b e p →
+      Voted S k w y h → atLeast (Some (y .rank)) (Some (b .rank)) ≡ true → (y ≡ b) ⊎ ((1 < y .height) × (atLeast (Some (y .parent)) (Some (b .rank)) ≡ true))
+  extends i b y e p h run clean si s c voted above =
+      let (q, e′, p′, place, (sj, votes)) = voted in
+      let s′ : Earlier (e′ ∷ p′) h = (q, place) in
+      let v = f .ballot e′ p′ y (run-earlier S k w f (e′ ∷ p′) h s′ run) votes in
+      elim (rank-cases (y .rank) (b .rank) above) [
+        | inl same ↦
+            let mine : Voted S k w b (e ∷ p) = f .shelved-voted i (e ∷ p) b si (run-earlier S k w f (e ∷ p) h s run) (commit-shelved i b e p c) in
+            inl (one-block-a-rank S k w lawful f y b h run clean voted (voted-later S k w lawful f b (e ∷ p) h s mine) same)
+        | inr (inl (view, later)) ↦ inr (later-extends y (b .rank) (v .lawful) (omega arith) (inl (view, later)))
+        | inr (inr higher) ↦
+          elim (cases-lt 0 (y .rank .turn)) [
+            | inl later ↦ inr (later-extends y (b .rank) (v .lawful) later (inr higher))
+            | inr first ↦
+                let (u, is, low) = one-before (y .rank .view) (b .rank .view) higher in
+                let on : OnIn S k w (e′ .who) (suc u) p′ = subst (λ z. OnIn S k w (e′ .who) z p′) is (v .on-there) in
+                let lock : atLeast (state S k w (e′ .who) p′ .lock) (Some (b .rank)) ≡ true =
+                    lock-holds i (e′ .who) u b e p p′ h run clean si sj s c (earlier-before e′ p′ h s′) on low in
+                let (no-root, parent) = parent-above y (b .rank)
+                    (at-least-through (parentOf y) (state S k w (e′ .who) p′ .lock) (Some (b .rank)) (v .above-lock (omega arith)) lock) in
+                let high : 1 ≤ y .height = tall-enough (y .rank .view) (y .rank .turn) (y .height) (y .parent .view) (y .parent .turn) (v .lawful .numbers) in
+                inr (omega (arith, no-root), parent)
+          ]
+      ]
+
+  -- so on every sound shelf a committed block is an ancestor of every block at or above it
+  walk : (n i j : ℕ) (b y : Block R) (e : Event) (p h : History) → Run S k w h → Clean S k w h → Sound w i → Sound w j → Earlier (e ∷ p) h → Committing i b e p →
+      y .height ≤ n → OnShelf y (shelf S k w j h) → atLeast (Some (y .rank)) (Some (b .rank)) ≡ true → Descends (shelf S k w j h) y b
+  walk zero i j b y e p h run clean si sj s c small on above =
+      let law = f .shelf-lawful j h y sj run on in
+      let high : 1 ≤ y .height = tall-enough (y .rank .view) (y .rank .turn) (y .height) (y .parent .view) (y .parent .turn) (law .numbers) in
+      absurd (omega arith)
+  walk (suc n) i j b y e p h run clean si sj s c small on above =
+      let rec : (z : Block R) → z .height ≤ n → OnShelf z (shelf S k w j h) → atLeast (Some (z .rank)) (Some (b .rank)) ≡ true → Descends (shelf S k w j h) z b =
+          λ z. walk n i j b z e p h run clean si sj s c in
+      elim (extends i b y e p h run clean si s c (f .shelved-voted j h y sj run on) above) [
+        | inl same ↦ subst (Descends (shelf S k w j h) y) same (self y on)
+        | inr (tall, high) ↦
+          elim (f .shelf-closed j h y sj run on) [
+            | inl one ↦ absurd (omega arith)
+            | inr (z, there, rank, height) ↦
+                up y z b on tall rank height (rec z (omega arith) there (subst (λ r. atLeast (Some r) (Some (b .rank)) ≡ true) (sym rank) high))
+          ]
+      ]
+
+  pub descends-from-commit : (i j : ℕ) (b y : Block R) (e : Event) (p h : History) → Run S k w h → Clean S k w h → Sound w i → Sound w j →
+      Earlier (e ∷ p) h → Committing i b e p → OnShelf y (shelf S k w j h) → atLeast (Some (y .rank)) (Some (b .rank)) ≡ true → Descends (shelf S k w j h) y b
+  descends-from-commit i j b y e p h run clean si sj s c on above = walk (y .height) i j b y e p h run clean si sj s c (omega arith) on above
