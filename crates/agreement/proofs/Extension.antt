@@ -119,7 +119,7 @@ module _ {L : ℕ} {R : Type 0} (S : ℕ) (k : Kind L R) (w : Setting) (lawful :
       let (q, e, p, place, (mine, (height, takes))) = was-from-once (λ e p. (e .who ≡ i) × (Did S k w (λ o. 0 < o .height) e p × Takes S k w b e p)) h c in
       (e, p, (q, place), record { mine = mine; height = height; takes = takes })
 
-  commit-shelved : (i : ℕ) (b : Block R) (e : Event) (p : History) → Committing i b e p → OnShelf b (shelf S k w i (e ∷ p))
+  pub commit-shelved : (i : ℕ) (b : Block R) (e : Event) (p : History) → Committing i b e p → OnShelf b (shelf S k w i (e ∷ p))
   commit-shelved i b e p c = subst (λ z. OnShelf b (shelf S k w z (e ∷ p))) (c .mine) (taken-shelved S k w b e p (c .takes))
 
   commit-stage : (i : ℕ) (b : Block R) (e : Event) (p : History) → Run S k w (e ∷ p) → Committing i b e p → stage (state S k w i p) ≡ 2 * b .rank .view

@@ -1,3 +1,4 @@
+pub mod Agree
 pub mod Delivery
 pub mod Extension
 pub mod Facts

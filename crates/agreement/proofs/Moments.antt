@@ -74,8 +74,8 @@ module _ (P : Event → History → Type 0) where
   pub always-at : (e : Event) (p h : History) → Earlier (e ∷ p) h → Always P h → P e p
   always-at e p h s a = always-earlier (e ∷ p) h s a .0
 
-  -- never is always not
-  pub never-from-always : (h : History) → Always (λ e p. P e p → ⊥) h → Once P h → ⊥
-  never-from-always [] a o = elim o [ ]
-  never-from-always (e ∷ h) a (inl x) = a .0 x
-  never-from-always (e ∷ h) a (inr o) = never-from-always h (a .1) o
+  -- what something that always holds rules out was never so
+  pub never-from-always : (Q : Event → History → Type 0) → ((e : Event) (p : History) → Q e p → P e p → ⊥) → (h : History) → Always Q h → Once P h → ⊥
+  never-from-always Q rules-out [] a o = elim o [ ]
+  never-from-always Q rules-out (e ∷ h) a (inl x) = rules-out e h (a .0) x
+  never-from-always Q rules-out (e ∷ h) a (inr o) = never-from-always Q rules-out h (a .1) o
