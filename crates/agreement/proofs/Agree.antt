@@ -1,16 +1,15 @@
 -- Agreement, from the facts about one seat: no certificate is refused, and sound seats commit one block a height.
-use Prim.Native.Nat.{ℕ, zero, suc, _+_, _*_, _≤_, _<_}
+use Prim.Native.Nat.{ℕ, _+_}
 use native.Mathlib.Omega.{arith}
-use mathlib.Core.Path.{_≡_, refl, sym, ap, subst, _∙_}
-use mathlib.Core.Bool.{Bool, true, false, cond}
-use mathlib.Core.List.{List, [], _∷_, _++_}
+use mathlib.Core.Path.{_≡_, sym, ap, subst, _∙_}
+use mathlib.Core.Bool.{true}
+use mathlib.Core.List.{List, [], _∷_}
 use mathlib.Core.Logic.{_⊎_, inl, inr}
-use lib.Dec.{eqb, ltb}
-use Rattle.std.proofs.shelf.Tests.{cases-bool, cond-false, false≢true, ne-eqb, not-from-false}
+use Rattle.std.proofs.shelf.Tests.{cases-bool, cond-false, ne-eqb, not-from-false}
 use Rattle.std.specs.declared.option.Option.{Option}
-use Rattle.std.specs.declared.option.Option.the-variants.{Some, None}
+use Rattle.std.specs.declared.option.Option.the-variants.{Some}
 use Rattle.std.specs.declared.result.Result.{Result}
-use Rattle.std.specs.declared.result.Result.the-variants.{Ok, Err}
+use Rattle.std.specs.declared.result.Result.the-variants.{Ok}
 use Rattle.content.specs.Kinds.{Kind}
 use Rattle.content.specs.declared.refusal.Refusal.{Refusal}
 use Rattle.content.specs.declared.refusal.Refusal.the-variants.{Orphan, Rival, Fork}
@@ -18,16 +17,15 @@ use Rattle.wire.specs.Ranks.{atLeast, below, parentOf}
 use Rattle.wire.specs.declared.block.Block.{Block}
 use Rattle.wire.specs.declared.block.Rank.{Rank}
 use Rattle.shelf.specs.Blocks.{readBelow}
-use Rattle.agreement.specs.Committed.{Committed, Commits, ParentOf, Takes, Took, ancestor, direct}
-use Rattle.agreement.specs.History.{Always, Event, History, Once, Refused, desk}
+use Rattle.agreement.specs.Committed.{Committed, Commits, Takes, Took, ancestor, direct}
+use Rattle.agreement.specs.History.{Event, History, Once, Refused}
 use Rattle.agreement.specs.Run.{Run}
 use Rattle.agreement.specs.Setting.{Lawful, Setting, Sound}
 use Rattle.agreement.specs.Theorem.{Agrees, ClashUnderSoundLeader}
-use Rattle.agreement.proofs.Facts.{Candidate, Descends, Earlier, OnIn, OnShelf, ParentOn, SeatFacts, Voted, Was, self, shelf, state, up}
-use Rattle.agreement.proofs.Moments.{earlier-before, earlier-refl, earlier-step, earlier-trans, never-from-always, was-from-once}
-use Rattle.agreement.proofs.Delivery.{run-earlier}
+use Rattle.agreement.proofs.Facts.{Descends, Earlier, OnShelf, SeatFacts, Voted, self, shelf, up}
+use Rattle.agreement.proofs.Moments.{earlier-before, earlier-trans, never-from-always, was-from-once}
 use Rattle.agreement.proofs.OneBlock.{Clean, CleanAt, one-block-a-rank, parent-everywhere}
-use Rattle.agreement.proofs.Extension.{Committing, commit-shelved, commit-was, descends-from-commit, extends, taken-shelved}
+use Rattle.agreement.proofs.Extension.{commit-shelved, commit-was, descends-from-commit, extends, taken-shelved}
 
 below-above : (a b : Rank) → below a b ≡ true → atLeast (Some b) (Some a) ≡ true
 below-above a b t = grind arith
@@ -79,7 +77,7 @@ module _ {L : ℕ} {R : Type 0} (S : ℕ) (k : Kind L R) (w : Setting) (lawful :
   fork-never e p run clean refused =
       let (b, c, candidate, _, was, parent-on, lower, _, differ) = f .fork-because e p run refused in
       let sj = run .0 .driven .at-sound in
-      let (e′, p′, s, done) = commit-was S k w lawful f (e .who) c p (f .committed-was (e .who) p c sj (run .1) was) in
+      let (e′, p′, s, done) = commit-was S k w (e .who) c p (f .committed-was (e .who) p c sj (run .1) was) in
       elim (extends S k w lawful f (e .who) c b e′ p′ p (run .1) clean sj s done (candidate .voted) (below-above (c .rank) (b .rank) lower)) [
         | inl same ↦ never-below-itself (c .rank) (subst (λ (z : Block R). below (c .rank) (z .rank) ≡ true) same lower)
         | inr (tall, high) ↦
@@ -106,8 +104,8 @@ module _ {L : ℕ} {R : Type 0} (S : ℕ) (k : Kind L R) (w : Setting) (lawful :
   committed-under : (h : History) (i : ℕ) (b : Block R) → Run S k w h → Sound w i → Committed S k w h i b →
       (x : Block R) × Commits S k w i x h × Descends (shelf S k w i h) x b
   committed-under h i b run si (direct x c) =
-      let (e, p, s, done) = commit-was S k w lawful f i x h c in
-      (x, c, self x (f .shelf-grows i (e ∷ p) h x s (commit-shelved S k w lawful f i x e p done)))
+      let (e, p, s, done) = commit-was S k w i x h c in
+      (x, c, self x (f .shelf-grows i (e ∷ p) h x s (commit-shelved S k w i x e p done)))
   committed-under h i b run si (ancestor x c below-it (tall, (rank, once))) =
       let (top, commits, line) = committed-under h i x run si below-it in
       let on-x : OnShelf x (shelf S k w i h) = descends-to (shelf S k w i h) top x line in
@@ -143,7 +141,7 @@ module _ {L : ℕ} {R : Type 0} (S : ℕ) (k : Kind L R) (w : Setting) (lawful :
       Descends (shelf S k w i h) x b → Descends (shelf S k w j h) y c → atLeast (Some (y .rank)) (Some (x .rank)) ≡ true → b .height ≡ c .height → b ≡ c
   under-higher h i j x y b c run clean si sj commits line-b line-c above same =
       let bs = shelf S k w j h in
-      let (e, p, s, done) = commit-was S k w lawful f i x h commits in
+      let (e, p, s, done) = commit-was S k w i x h commits in
       let line : Descends bs y x = descends-from-commit S k w lawful f i j x y e p h run clean si sj s done (descends-on bs y c line-c) above in
       let moved : Descends bs x b = descends-moved h i j x b run clean si sj line-b (descends-to bs y x line) in
       let read-b : readBelow bs (Some (y .rank)) (b .height) ≡ Ok (Some b) = f .reads-ancestor j h y b sj run (descends-through bs y x b line moved) in

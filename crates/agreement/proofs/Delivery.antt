@@ -1,17 +1,17 @@
 -- Sound clocks go in step, and what a sound seat sends is handed to every sound seat within delta ticks.
-use Prim.Native.Nat.{ℕ, suc, _+_, _≤_, _<_}
+use Prim.Native.Nat.{ℕ, _+_, _≤_, _<_}
 use native.Mathlib.Omega.{arith}
 use mathlib.Core.Path.{_≡_, refl, sym, ap, subst, _∙_}
 use mathlib.Core.List.{List, [], _∷_, _++_}
-use mathlib.Core.Logic.{_⊎_, inl, inr}
+use mathlib.Core.Logic.{inl, inr}
 use Rattle.std.proofs.shelf.Lists.{append-assoc}
 use Rattle.std.proofs.shelf.Tests.{cases-lt}
 use Rattle.content.specs.Kinds.{Kind}
-use Rattle.agreement.specs.History.{Call, Event, History, Once, Sends, clock, desk, hand, offer, sent, tick}
+use Rattle.agreement.specs.History.{Call, Event, History, Sends, clock, desk, hand, offer, sent, tick}
 use Rattle.agreement.specs.Run.{Alike, Hands, Moment, Run, StepAt}
-use Rattle.agreement.specs.Setting.{Lawful, Setting, Sound}
+use Rattle.agreement.specs.Setting.{Setting, Sound}
 use Rattle.agreement.proofs.Facts.{Earlier, SeatFacts, Ticks, Was}
-use Rattle.agreement.proofs.Moments.{always-at, always-earlier, earlier-before, earlier-more, earlier-refl, earlier-step, earlier-trans, was-from-once}
+use Rattle.agreement.proofs.Moments.{always-earlier, earlier-before, earlier-more, earlier-step, was-from-once}
 
 module _ {L : ℕ} {R : Type 0} (S : ℕ) (k : Kind L R) (w : Setting) (f : SeatFacts S k w) where
   -- every moment of a run is a run

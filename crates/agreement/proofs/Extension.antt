@@ -2,17 +2,14 @@
 use Prim.Native.Nat.{ℕ, zero, suc, _+_, _*_, _≤_, _<_}
 use native.Mathlib.Omega.{arith}
 use mathlib.Core.Path.{_≡_, refl, sym, ap, subst, _∙_}
-use mathlib.Core.Bool.{Bool, true, false, cond, not, _&&_, _||_}
+use mathlib.Core.Bool.{true, not}
 use mathlib.Core.List.{List, [], _∷_, _++_}
 use mathlib.Core.Logic.{_⊎_, inl, inr}
-use lib.Dec.{eqb, ltb}
+use lib.Dec.{eqb}
 use Rattle.std.proofs.shelf.Tests.{cases-bool, cases-lt, cond-false, cond-true, eq-eqb, eqb-false, false≢true}
-use Rattle.std.specs.declared.option.Option.{Option}
 use Rattle.std.specs.declared.option.Option.the-variants.{Some, None}
-use Rattle.std.specs.declared.result.Result.{Result}
-use Rattle.std.specs.declared.result.Result.the-variants.{Ok, Err}
+use Rattle.std.specs.declared.result.Result.the-variants.{Ok}
 use Rattle.content.specs.Kinds.{Kind}
-use Rattle.content.specs.declared.refusal.Refusal.{Refusal}
 use Rattle.wire.specs.Lawful.{LawfulBlock}
 use Rattle.wire.specs.Layout.{lawfulNumbers}
 use Rattle.wire.specs.Ranks.{Place, atLeast, below, parentOf}
@@ -21,12 +18,12 @@ use Rattle.wire.specs.declared.block.Rank.{Rank}
 use Rattle.seat.specs.Calls.{blocksAfter}
 use Rattle.seat.specs.Sends.{Outcome}
 use Rattle.agreement.specs.Committed.{Commits, Takes}
-use Rattle.agreement.specs.History.{Call, Desk, Did, Event, History, Once, after, clock, desk, hand, offer, outcome, result, sent, tick}
-use Rattle.agreement.specs.Run.{Among, Run}
+use Rattle.agreement.specs.History.{Call, Desk, Did, Event, History, after, clock, desk, hand, offer, outcome, sent, tick}
+use Rattle.agreement.specs.Run.{Run}
 use Rattle.agreement.specs.Setting.{Lawful, Setting, Sound}
-use Rattle.agreement.proofs.Facts.{Ballot, Descends, Earlier, OnIn, OnShelf, ParentOn, SeatFacts, Voted, VotesFor, Was, self, shelf, stage, state, up}
-use Rattle.agreement.proofs.Moments.{cases-earlier, cases-last, earlier-before, earlier-refl, earlier-step, earlier-trans, was-from-once}
-use Rattle.agreement.proofs.Delivery.{clocks-close, delivered, handed-still, run-earlier}
+use Rattle.agreement.proofs.Facts.{Descends, Earlier, OnIn, OnShelf, SeatFacts, Voted, self, shelf, stage, state, up}
+use Rattle.agreement.proofs.Moments.{cases-earlier, cases-last, earlier-before, earlier-refl, earlier-trans, was-from-once}
+use Rattle.agreement.proofs.Delivery.{delivered, run-earlier}
 use Rattle.agreement.proofs.Sync.{notice-handed, stage-on}
 use Rattle.agreement.proofs.OneBlock.{Clean, clean-earlier, later-turn, one-block-a-rank, shelved-everywhere, voted-later}
 
@@ -107,7 +104,6 @@ module _ {L : ℕ} {R : Type 0} (S : ℕ) (k : Kind L R) (w : Setting) where
           ap (λ (d : Desk S R). d .blocks) (own-desk e p) ∙ (after-blocks (e .who) (e .what) (desk S k w (e .who) p) o done ∙ grown) in
       subst (OnShelf b) (sym now) (among-end b (shelf S k w (e .who) p))
 
-module _ {L : ℕ} {R : Type 0} (S : ℕ) (k : Kind L R) (w : Setting) (lawful : Lawful w) (f : SeatFacts S k w) where
   -- a call by which a seat committed a block itself
   pub record Committing (i : ℕ) (b : Block R) (e : Event) (p : History) : Type 0 where
     pub mine : e .who ≡ i
@@ -120,15 +116,16 @@ module _ {L : ℕ} {R : Type 0} (S : ℕ) (k : Kind L R) (w : Setting) (lawful :
       (e, p, (q, place), record { mine = mine; height = height; takes = takes })
 
   pub commit-shelved : (i : ℕ) (b : Block R) (e : Event) (p : History) → Committing i b e p → OnShelf b (shelf S k w i (e ∷ p))
-  commit-shelved i b e p c = subst (λ z. OnShelf b (shelf S k w z (e ∷ p))) (c .mine) (taken-shelved S k w b e p (c .takes))
+  commit-shelved i b e p c = subst (λ z. OnShelf b (shelf S k w z (e ∷ p))) (c .mine) (taken-shelved b e p (c .takes))
 
-  commit-stage : (i : ℕ) (b : Block R) (e : Event) (p : History) → Run S k w (e ∷ p) → Committing i b e p → stage (state S k w i p) ≡ 2 * b .rank .view
+module _ {L : ℕ} {R : Type 0} (S : ℕ) (k : Kind L R) (w : Setting) (lawful : Lawful w) (f : SeatFacts S k w) where
+  commit-stage : (i : ℕ) (b : Block R) (e : Event) (p : History) → Run S k w (e ∷ p) → Committing S k w i b e p → stage (state S k w i p) ≡ 2 * b .rank .view
   commit-stage i b e p run c =
       let on : OnIn S k w i (b .rank .view) p = subst (λ z. OnIn S k w z (b .rank .view) p) (c .mine) (f .commit-on e p b run (c .height) (c .takes)) in
       stage-on (state S k w i p) (b .rank .view) (on .0) (on .1)
 
   -- a commit lies before the moment at which its seat has left the view
-  commit-before : (i v : ℕ) (b : Block R) (e : Event) (p g h : History) → Run S k w h → Sound w i → Earlier (e ∷ p) h → Earlier g h → Committing i b e p →
+  commit-before : (i v : ℕ) (b : Block R) (e : Event) (p g h : History) → Run S k w h → Sound w i → Earlier (e ∷ p) h → Earlier g h → Committing S k w i b e p →
       b .rank .view ≤ v → 2 * v + 1 ≤ stage (state S k w i g) → Earlier (e ∷ p) g
   commit-before i v b e p g h run si s t c low left =
       let run-e : Run S k w (e ∷ p) = run-earlier S k w f (e ∷ p) h s run in
@@ -146,7 +143,7 @@ module _ {L : ℕ} {R : Type 0} (S : ℕ) (k : Kind L R) (w : Setting) (lawful :
 
   -- the lock of a sound seat on in a later view covers every block that a sound seat committed
   pub lock-holds : (i j v : ℕ) (b : Block R) (e : Event) (p g h : History) → Run S k w h → Clean S k w h → Sound w i → Sound w j →
-      Earlier (e ∷ p) h → Committing i b e p → Earlier g h → OnIn S k w j (suc v) g → b .rank .view ≤ v →
+      Earlier (e ∷ p) h → Committing S k w i b e p → Earlier g h → OnIn S k w j (suc v) g → b .rank .view ≤ v →
       atLeast (state S k w j g .lock) (Some (b .rank)) ≡ true
   lock-holds i j v b e p g h run clean si sj s c t on low =
       let run-g : Run S k w g = run-earlier S k w f g h t run in
@@ -168,7 +165,7 @@ module _ {L : ℕ} {R : Type 0} (S : ℕ) (k : Kind L R) (w : Setting) (lawful :
       let heard-h : Earlier heard h = earlier-trans heard (y ∷ z) h (d .before) (earlier-trans (y ∷ z) g h entered t) in
       let first : Earlier (e ∷ p) heard = commit-before i v b e p heard h run si s heard-h c low left in
       -- so its certificate reached the seat before it entered the view
-      let (q″, x″, r″, place″, (mine″, _, sends″)) = f .shelved-sent i (e ∷ p) b si (run-earlier S k w f (e ∷ p) h s run) (commit-shelved i b e p c) in
+      let (q″, x″, r″, place″, (mine″, _, sends″)) = f .shelved-sent i (e ∷ p) b si (run-earlier S k w f (e ∷ p) h s run) (commit-shelved S k w i b e p c) in
       let sent″ : Earlier (x″ ∷ r″) heard = earlier-trans (x″ ∷ r″) (e ∷ p) heard (q″, place″) first in
       let tick″ : clock S k w (x″ .who) (x″ ∷ r″) ≡ clock S k w i (x″ ∷ r″) = ap (λ a. clock S k w a (x″ ∷ r″)) mine″ in
       let up″ : clock S k w i (x″ ∷ r″) ≤ clock S k w i heard = f .clock-rises i (x″ ∷ r″) heard sent″ in
@@ -191,7 +188,7 @@ module _ {L : ℕ} {R : Type 0} (S : ℕ) (k : Kind L R) (w : Setting) (lawful :
       (tall, turn-before (y .parent) r (y .rank .view) (y .rank .turn) view turn higher)
 
   -- what sound seats vote for at or above a committed block is that block, or has its parent at or above it
-  pub extends : (i : ℕ) (b y : Block R) (e : Event) (p h : History) → Run S k w h → Clean S k w h → Sound w i → Earlier (e ∷ p) h → Committing i b e p →
+  pub extends : (i : ℕ) (b y : Block R) (e : Event) (p h : History) → Run S k w h → Clean S k w h → Sound w i → Earlier (e ∷ p) h → Committing S k w i b e p →
       Voted S k w y h → atLeast (Some (y .rank)) (Some (b .rank)) ≡ true → (y ≡ b) ⊎ ((1 < y .height) × (atLeast (Some (y .parent)) (Some (b .rank)) ≡ true))
   extends i b y e p h run clean si s c voted above =
       let (q, e′, p′, place, (sj, votes)) = voted in
@@ -199,8 +196,8 @@ module _ {L : ℕ} {R : Type 0} (S : ℕ) (k : Kind L R) (w : Setting) (lawful :
       let v = f .ballot e′ p′ y (run-earlier S k w f (e′ ∷ p′) h s′ run) votes in
       elim (rank-cases (y .rank) (b .rank) above) [
         | inl same ↦
-            let mine : Voted S k w b (e ∷ p) = f .shelved-voted i (e ∷ p) b si (run-earlier S k w f (e ∷ p) h s run) (commit-shelved i b e p c) in
-            inl (one-block-a-rank S k w lawful f y b h run clean voted (voted-later S k w lawful f b (e ∷ p) h s mine) same)
+            let mine : Voted S k w b (e ∷ p) = f .shelved-voted i (e ∷ p) b si (run-earlier S k w f (e ∷ p) h s run) (commit-shelved S k w i b e p c) in
+            inl (one-block-a-rank S k w lawful f y b h run clean voted (voted-later S k w b (e ∷ p) h s mine) same)
         | inr (inl (view, later)) ↦ inr (later-extends y (b .rank) (v .lawful) (omega arith) (inl (view, later)))
         | inr (inr higher) ↦
           elim (cases-lt 0 (y .rank .turn)) [
@@ -218,7 +215,7 @@ module _ {L : ℕ} {R : Type 0} (S : ℕ) (k : Kind L R) (w : Setting) (lawful :
       ]
 
   -- so on every sound shelf a committed block is an ancestor of every block at or above it
-  walk : (n i j : ℕ) (b y : Block R) (e : Event) (p h : History) → Run S k w h → Clean S k w h → Sound w i → Sound w j → Earlier (e ∷ p) h → Committing i b e p →
+  walk : (n i j : ℕ) (b y : Block R) (e : Event) (p h : History) → Run S k w h → Clean S k w h → Sound w i → Sound w j → Earlier (e ∷ p) h → Committing S k w i b e p →
       y .height ≤ n → OnShelf y (shelf S k w j h) → atLeast (Some (y .rank)) (Some (b .rank)) ≡ true → Descends (shelf S k w j h) y b
   walk zero i j b y e p h run clean si sj s c small on above =
       let law = f .shelf-lawful j h y sj run on in
@@ -238,5 +235,5 @@ module _ {L : ℕ} {R : Type 0} (S : ℕ) (k : Kind L R) (w : Setting) (lawful :
       ]
 
   pub descends-from-commit : (i j : ℕ) (b y : Block R) (e : Event) (p h : History) → Run S k w h → Clean S k w h → Sound w i → Sound w j →
-      Earlier (e ∷ p) h → Committing i b e p → OnShelf y (shelf S k w j h) → atLeast (Some (y .rank)) (Some (b .rank)) ≡ true → Descends (shelf S k w j h) y b
+      Earlier (e ∷ p) h → Committing S k w i b e p → OnShelf y (shelf S k w j h) → atLeast (Some (y .rank)) (Some (b .rank)) ≡ true → Descends (shelf S k w j h) y b
   descends-from-commit i j b y e p h run clean si sj s c on above = walk (y .height) i j b y e p h run clean si sj s c (omega arith) on above

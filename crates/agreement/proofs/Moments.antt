@@ -1,7 +1,6 @@
 -- Earlier moments of a history, and what held of one of its calls.
-use Prim.Native.Nat.{ℕ}
 use mathlib.Core.Path.{_≡_, refl, sym, ap, subst, _∙_}
-use mathlib.Core.List.{List, [], _∷_, _++_}
+use mathlib.Core.List.{[], _∷_, _++_}
 use mathlib.Core.Logic.{_⊎_, inl, inr}
 use Rattle.std.proofs.shelf.Lists.{append-assoc}
 use Rattle.agreement.specs.History.{Always, Event, History, Once}

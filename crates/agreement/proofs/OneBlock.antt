@@ -1,11 +1,10 @@
 -- Sound seats vote for one block a rank, and have the parent of every block that was voted for.
-use Prim.Native.Nat.{ℕ, zero, suc, _+_, _*_, _≤_, _<_}
+use Prim.Native.Nat.{ℕ, _+_, _*_, _≤_, _<_}
 use native.Mathlib.Omega.{arith}
-use mathlib.Core.Path.{_≡_, refl, sym, ap, subst, _∙_}
-use mathlib.Core.Bool.{Bool, true, false, cond, _&&_}
-use mathlib.Core.List.{List, [], _∷_, _++_}
-use mathlib.Core.Logic.{_⊎_, inl, inr}
-use lib.Dec.{eqb, ltb}
+use mathlib.Core.Path.{_≡_, sym, ap, subst, _∙_}
+use mathlib.Core.Bool.{true}
+use mathlib.Core.List.{List, _∷_}
+use mathlib.Core.Logic.{inl, inr}
 use Rattle.std.proofs.shelf.Tests.{cases-lt}
 use Rattle.content.specs.Kinds.{Kind}
 use Rattle.content.specs.declared.refusal.Refusal.the-variants.{Orphan, Rival, Fork}
@@ -13,12 +12,12 @@ use Rattle.wire.specs.Lawful.{LawfulBlock}
 use Rattle.wire.specs.Layout.{lawfulNumbers}
 use Rattle.wire.specs.declared.block.Block.{Block}
 use Rattle.wire.specs.declared.block.Rank.{Rank}
-use Rattle.agreement.specs.History.{Always, Event, History, Refused, clock, desk}
+use Rattle.agreement.specs.History.{Always, Event, History, Refused, clock}
 use Rattle.agreement.specs.Run.{Hands, Run}
 use Rattle.agreement.specs.Setting.{Lawful, Setting, Sound}
-use Rattle.agreement.proofs.Facts.{Acceptance, AsCertificate, Ballot, Earlier, OnIn, OnShelf, ParentOn, Primed, SeatFacts, SendsSome, Voted, VotesFor, Was, shelf, stage, state}
-use Rattle.agreement.proofs.Moments.{always-at, always-earlier, cases-earlier, cases-last, earlier-before, earlier-more, earlier-refl, earlier-step, earlier-trans, was-later}
-use Rattle.agreement.proofs.Delivery.{Handing, clocks-close, delivered, handed-alike, run-earlier}
+use Rattle.agreement.proofs.Facts.{Acceptance, AsCertificate, Ballot, Earlier, OnShelf, ParentOn, Primed, SeatFacts, SendsSome, Voted, VotesFor, shelf, stage, state}
+use Rattle.agreement.proofs.Moments.{always-at, always-earlier, cases-earlier, cases-last, earlier-before, earlier-trans, was-later}
+use Rattle.agreement.proofs.Delivery.{clocks-close, delivered, handed-alike, run-earlier}
 use Rattle.agreement.proofs.Sync.{certificate-handed, proposal-handed, sync-far, sync-near}
 
 -- the numbers of a lawful block: at a later turn it stands on a block of its own view, one turn before
@@ -37,11 +36,18 @@ module _ {L : ℕ} {R : Type 0} (S : ℕ) (k : Kind L R) (w : Setting) where
   pub clean-earlier : (p h : History) → Earlier p h → Clean h → Clean p
   clean-earlier p h s clean = always-earlier CleanAt p h s clean
 
-module _ {L : ℕ} {R : Type 0} (S : ℕ) (k : Kind L R) (w : Setting) (lawful : Lawful w) (f : SeatFacts S k w) where
   -- what was voted for before was voted for
   pub voted-later : (b : Block R) (p h : History) → Earlier p h → Voted S k w b p → Voted S k w b h
   voted-later b p h s v = was-later (λ e p. Sound w (e .who) × VotesFor S k w b e p) p h s v
 
+  -- a note accepted before, as a moment
+  accepted-before : (b : Block R) (e : Event) (p h : History) → Earlier (e ∷ p) h → (v : Ballot S k w b e p) →
+      (x : Event) × (r : History) × Earlier (x ∷ r) h × Earlier (x ∷ r) p × Acceptance S k w (e .who) (v .accepted) b x r
+  accepted-before b e p h s v =
+      let (q, x, r, place, a) = v .acceptance in
+      (x, r, earlier-trans (x ∷ r) p h (q, place) (earlier-before e p h s), (q, place), a)
+
+module _ {L : ℕ} {R : Type 0} (S : ℕ) (k : Kind L R) (w : Setting) (lawful : Lawful w) (f : SeatFacts S k w) where
   -- a certificate that a sound seat sent is on every sound shelf, and was before the clock of any sound seat was past its tick and delta
   pub shelved-everywhere : (b : Block R) (e : Event) (p h : History) (l j : ℕ) → Run S k w h → Clean S k w h → Earlier (e ∷ p) h →
       SendsSome S k w (AsCertificate S k w b) e p → Sound w l → Sound w j → clock S k w (e .who) (e ∷ p) + w .delta < clock S k w l h →
@@ -53,13 +59,6 @@ module _ {L : ℕ} {R : Type 0} (S : ℕ) (k : Kind L R) (w : Setting) (lawful :
       let there : OnShelf (c .block) (shelf S k w (d .at .who) (d .at ∷ d .past)) =
           f .certificate-carried (d .at) (d .past) c (run-earlier S k w f (d .at ∷ d .past) h (d .before) run) good orphan rival fork in
       (d .at ∷ d .past, d .before, subst (λ z. OnShelf z (shelf S k w j (d .at ∷ d .past))) of (subst (λ z. OnShelf (c .block) (shelf S k w z (d .at ∷ d .past))) (d .mine) there), d .by)
-
-  -- a note accepted before, as a moment
-  accepted-before : (b : Block R) (e : Event) (p h : History) → Earlier (e ∷ p) h → (v : Ballot S k w b e p) →
-      (x : Event) × (r : History) × Earlier (x ∷ r) h × Earlier (x ∷ r) p × Acceptance S k w (e .who) (v .accepted) b x r
-  accepted-before b e p h s v =
-      let (q, x, r, place, a) = v .acceptance in
-      (x, r, earlier-trans (x ∷ r) p h (q, place) (earlier-before e p h s), (q, place), a)
 
   -- at a later turn, a seat that was passed the proposal is on in its view, or past it
   turn-reached : (b : Block R) (i a j : ℕ) (x : Event) (r g : History) (m : List ℕ) (y : Event) → Run S k w (y ∷ g) → LawfulBlock k b → Acceptance S k w i a b x r →
@@ -73,7 +72,7 @@ module _ {L : ℕ} {R : Type 0} (S : ℕ) (k : Kind L R) (w : Setting) (lawful :
             let (q, e, p, place, (sl, votes)) = f .shelved-voted i (x ∷ r) c si run-r on in
             let there : Earlier (e ∷ p) g = earlier-trans (e ∷ p) (x ∷ r) g (q, place) s in
             let ballot = f .ballot e p c (run-earlier S k w f (e ∷ p) g there (run .1)) votes in
-            let (x′, r′, place′, _, acc′) = accepted-before c e p g there ballot in
+            let (x′, r′, place′, _, acc′) = accepted-before S k w c e p g there ballot in
             let view : c .rank .view ≡ b .rank .view = ap (λ (z : Rank). z .view) rank ∙ same-view in
             let at : clock S k w (e .who) (x′ ∷ r′) ≡ ballot .accepted = acc′ .at-tick in
             let waited : ballot .accepted + (w .delta + 1) ≤ clock S k w (e .who) (e ∷ p) = ballot .waited in
@@ -113,7 +112,7 @@ module _ {L : ℕ} {R : Type 0} (S : ℕ) (k : Kind L R) (w : Setting) (lawful :
       Sound w (e .who) → Sound w (e′ .who) → (v : Ballot S k w b e p) → (v′ : Ballot S k w c e′ p′) → VotesFor S k w c e′ p′ →
       v .accepted ≤ v′ .accepted → c .rank ≡ b .rank → c ≡ b
   one-vote b c e e′ p p′ h run clean s s′ si sj v v′ votes first same =
-      let (x, r, place, _, acc) = accepted-before b e p h s v in
+      let (x, r, place, _, acc) = accepted-before S k w b e p h s v in
       let j = e′ .who in
       let run′ : Run S k w (e′ ∷ p′) = run-earlier S k w f (e′ ∷ p′) h s′ run in
       let at : clock S k w (e .who) (x ∷ r) ≡ v .accepted = acc .at-tick in
@@ -154,7 +153,7 @@ module _ {L : ℕ} {R : Type 0} (S : ℕ) (k : Kind L R) (w : Setting) (lawful :
   parent-everywhere b j h run clean sj (q, e, p, place, (si, votes)) =
       let s : Earlier (e ∷ p) h = (q, place) in
       let v = f .ballot e p b (run-earlier S k w f (e ∷ p) h s run) votes in
-      let (x, r, there, _, acc) = accepted-before b e p h s v in
+      let (x, r, there, _, acc) = accepted-before S k w b e p h s v in
       elim (acc .parent-there) [
         | inl one ↦ inl one
         | inr (c, on, rank, height) ↦

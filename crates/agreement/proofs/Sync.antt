@@ -1,18 +1,13 @@
 -- Sound seats change views together.
-use Prim.Native.Nat.{ℕ, zero, suc, _+_, _*_, _≤_, _<_}
+use Prim.Native.Nat.{ℕ, zero, suc, _+_, _*_, _≤_}
 use native.Mathlib.Omega.{arith}
 use mathlib.Core.Path.{_≡_, refl, sym, ap, subst, _∙_}
-use mathlib.Core.Bool.{Bool, true, false, cond}
-use mathlib.Core.List.{List, [], _∷_, _++_}
-use mathlib.Core.Logic.{_⊎_, inl, inr}
+use mathlib.Core.Bool.{cond}
+use mathlib.Core.List.{List, _∷_}
+use mathlib.Core.Logic.{inl, inr}
 use Rattle.std.proofs.shelf.Tests.{cases-lt}
-use Rattle.std.specs.Options.{mapped}
 use Rattle.std.specs.declared.option.Option.{Option}
-use Rattle.std.specs.declared.option.Option.the-variants.{Some, None}
-use Rattle.std.specs.declared.result.Result.the-variants.{Ok, Err}
 use Rattle.content.specs.Kinds.{Kind}
-use Rattle.wire.specs.Asked.{asked, judge}
-use Rattle.wire.specs.Reading.{readParts}
 use Rattle.wire.specs.declared.block.Block.{Block}
 use Rattle.wire.specs.declared.message.Certificate.{Certificate}
 use Rattle.wire.specs.declared.message.Parts.{Parts}
@@ -21,12 +16,12 @@ use Rattle.seat.specs.Parts.{isOn}
 use Rattle.seat.specs.declared.state.Phase.{Phase}
 use Rattle.seat.specs.declared.state.Phase.the-variants.{On, Leaving}
 use Rattle.seat.specs.declared.state.State.{State}
-use Rattle.agreement.specs.History.{Call, Event, History, clock, desk, hand, inboxOf, offer, sent, tick}
+use Rattle.agreement.specs.History.{Call, Event, History, clock, hand, inboxOf, offer, sent, tick}
 use Rattle.agreement.specs.Run.{Hands, Run, Sealed, bare, bareBody}
-use Rattle.agreement.specs.Setting.{Lawful, Setting, Sound}
-use Rattle.agreement.proofs.Facts.{AsCertificate, AsNotice, AsProposal, Earlier, GoodMessage, OnIn, SeatFacts, Was, stage, state}
-use Rattle.agreement.proofs.Moments.{earlier-before, earlier-refl, earlier-step, earlier-trans}
-use Rattle.agreement.proofs.Delivery.{Handing, delivered, run-earlier}
+use Rattle.agreement.specs.Setting.{Setting, Sound}
+use Rattle.agreement.proofs.Facts.{AsCertificate, AsNotice, AsProposal, Earlier, GoodMessage, OnIn, SeatFacts, stage, state}
+use Rattle.agreement.proofs.Moments.{earlier-trans}
+use Rattle.agreement.proofs.Delivery.{delivered, run-earlier}
 
 module _ {R : Type 0} where
   -- messages that are alike apart from their seals
