@@ -8,16 +8,12 @@ use Rattle.std.proofs.shelf.Lists.{append-assoc}
 use Rattle.std.proofs.shelf.Tests.{cases-lt}
 use Rattle.content.specs.Kinds.{Kind}
 use Rattle.agreement.specs.History.{Call, Event, History, Sends, clock, desk, hand, offer, sent, tick}
-use Rattle.agreement.specs.Run.{Alike, Hands, Moment, Run, StepAt}
+use Rattle.agreement.specs.Run.{Alike, Hands, Run, StepAt}
 use Rattle.agreement.specs.Setting.{Setting, Sound}
 use Rattle.agreement.proofs.Facts.{Earlier, SeatFacts, Ticks, Was}
-use Rattle.agreement.proofs.Moments.{always-earlier, earlier-before, earlier-more, earlier-step, was-from-once}
+use Rattle.agreement.proofs.Moments.{earlier-before, earlier-more, earlier-step, run-earlier, was-from-once}
 
 module _ {L : ℕ} {R : Type 0} (S : ℕ) (k : Kind L R) (w : Setting) (f : SeatFacts S k w) where
-  -- every moment of a run is a run
-  pub run-earlier : (p h : History) → Earlier p h → Run S k w h → Run S k w p
-  run-earlier p h s run = always-earlier (Moment S k w) p h s run
-
   hands-no-tick : (m : List ℕ) (c : Call) → Hands S k w m c → Ticks c → ⊥
   hands-no-tick m (hand inbox room) a t = t
   hands-no-tick m (tick room) a t = a
@@ -88,7 +84,7 @@ module _ {L : ℕ} {R : Type 0} (S : ℕ) (k : Kind L R) (w : Setting) (f : Seat
       let r : History = q2 ++ g in
       let place : Earlier (x ∷ r) (q ++ g) = (q1, ap (λ z. z ++ g) s ∙ append-assoc q1 (x ∷ q2) g) in
       let still : clock S k w j (x ∷ r) ≡ clock S k w j r = handed-still m x r j hands in
-      let alike : clock S k w j r ≡ clock S k w l r = handed-alike m x r (run-earlier (x ∷ r) (q ++ g) place run) hands j l sj sl in
+      let alike : clock S k w j r ≡ clock S k w l r = handed-alike m x r (run-earlier S k w (x ∷ r) (q ++ g) place run) hands j l sj sl in
       let up : clock S k w l r ≤ clock S k w l (q ++ g) = f .clock-rises l r (q ++ g) (earlier-before x r (q ++ g) place) in
       record { at = x; past = r; mine = mine; hands = hands; after = (q2, refl); before = place; by = omega arith }
 

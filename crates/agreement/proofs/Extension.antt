@@ -22,8 +22,8 @@ use Rattle.agreement.specs.History.{Call, Desk, Did, Event, History, after, cl
 use Rattle.agreement.specs.Run.{Run}
 use Rattle.agreement.specs.Setting.{Lawful, Setting, Sound}
 use Rattle.agreement.proofs.Facts.{Descends, Earlier, OnIn, OnShelf, SeatFacts, Voted, self, shelf, stage, state, up}
-use Rattle.agreement.proofs.Moments.{cases-earlier, cases-last, earlier-before, earlier-refl, earlier-trans, was-from-once}
-use Rattle.agreement.proofs.Delivery.{delivered, run-earlier}
+use Rattle.agreement.proofs.Moments.{cases-earlier, cases-last, earlier-before, earlier-refl, earlier-trans, run-earlier, was-from-once}
+use Rattle.agreement.proofs.Delivery.{delivered}
 use Rattle.agreement.proofs.Sync.{notice-handed, stage-on}
 use Rattle.agreement.proofs.OneBlock.{Clean, clean-earlier, later-turn, one-block-a-rank, shelved-everywhere, voted-later}
 
@@ -128,7 +128,7 @@ module _ {L : ℕ} {R : Type 0} (S : ℕ) (k : Kind L R) (w : Setting) (lawful :
   commit-before : (i v : ℕ) (b : Block R) (e : Event) (p g h : History) → Run S k w h → Sound w i → Earlier (e ∷ p) h → Earlier g h → Committing S k w i b e p →
       b .rank .view ≤ v → 2 * v + 1 ≤ stage (state S k w i g) → Earlier (e ∷ p) g
   commit-before i v b e p g h run si s t c low left =
-      let run-e : Run S k w (e ∷ p) = run-earlier S k w f (e ∷ p) h s run in
+      let run-e : Run S k w (e ∷ p) = run-earlier S k w (e ∷ p) h s run in
       let there : stage (state S k w i p) ≡ 2 * b .rank .view = commit-stage i b e p run-e c in
       elim (cases-earlier (e ∷ p) g h s t) [
         | inl first ↦ first
@@ -146,11 +146,11 @@ module _ {L : ℕ} {R : Type 0} (S : ℕ) (k : Kind L R) (w : Setting) (lawful :
       Earlier (e ∷ p) h → Committing S k w i b e p → Earlier g h → OnIn S k w j (suc v) g → b .rank .view ≤ v →
       atLeast (state S k w j g .lock) (Some (b .rank)) ≡ true
   lock-holds i j v b e p g h run clean si sj s c t on low =
-      let run-g : Run S k w g = run-earlier S k w f g h t run in
+      let run-g : Run S k w g = run-earlier S k w g h t run in
       let (few, (q, y, z, place, entry)) = f .entry j v g sj run-g on in
       let (q′, x, r, place′, (mine, (m, sends, reads), late)) = entry .notice in
       let entered : Earlier (y ∷ z) g = (q, place) in
-      let run-y : Run S k w (y ∷ z) = run-earlier S k w f (y ∷ z) g entered run-g in
+      let run-y : Run S k w (y ∷ z) = run-earlier S k w (y ∷ z) g entered run-g in
       let noticed : Earlier (x ∷ r) (y ∷ z) = (y ∷ q′, ap (λ a. y ∷ a) place′) in
       let tick : clock S k w (x .who) (x ∷ r) ≡ clock S k w j (x ∷ r) = ap (λ a. clock S k w a (x ∷ r)) mine in
       let late′ : clock S k w j (x ∷ r) + (2 * w .delta + 1) ≡ clock S k w j (y ∷ z) = late in
@@ -160,12 +160,12 @@ module _ {L : ℕ} {R : Type 0} (S : ℕ) (k : Kind L R) (w : Setting) (lawful :
       let by : clock S k w i heard ≤ clock S k w (x .who) (x ∷ r) + w .delta = d .by in
       let (mask, seals, good) = notice-handed S k w v m (d .at) reads (d .hands) in
       let carried : 2 * v + 1 ≤ stage (state S k w (d .at .who) heard) =
-          f .notice-carried (d .at) (d .past) v mask seals (run-earlier S k w f heard (y ∷ z) (d .before) run-y) good (omega arith) in
+          f .notice-carried (d .at) (d .past) v mask seals (run-earlier S k w heard (y ∷ z) (d .before) run-y) good (omega arith) in
       let left : 2 * v + 1 ≤ stage (state S k w i heard) = subst (λ a. 2 * v + 1 ≤ stage (state S k w a heard)) (d .mine) carried in
       let heard-h : Earlier heard h = earlier-trans heard (y ∷ z) h (d .before) (earlier-trans (y ∷ z) g h entered t) in
       let first : Earlier (e ∷ p) heard = commit-before i v b e p heard h run si s heard-h c low left in
       -- so its certificate reached the seat before it entered the view
-      let (q″, x″, r″, place″, (mine″, _, sends″)) = f .shelved-sent i (e ∷ p) b si (run-earlier S k w f (e ∷ p) h s run) (commit-shelved S k w i b e p c) in
+      let (q″, x″, r″, place″, (mine″, _, sends″)) = f .shelved-sent i (e ∷ p) b si (run-earlier S k w (e ∷ p) h s run) (commit-shelved S k w i b e p c) in
       let sent″ : Earlier (x″ ∷ r″) heard = earlier-trans (x″ ∷ r″) (e ∷ p) heard (q″, place″) first in
       let tick″ : clock S k w (x″ .who) (x″ ∷ r″) ≡ clock S k w i (x″ ∷ r″) = ap (λ a. clock S k w a (x″ ∷ r″)) mine″ in
       let up″ : clock S k w i (x″ ∷ r″) ≤ clock S k w i heard = f .clock-rises i (x″ ∷ r″) heard sent″ in
@@ -193,10 +193,10 @@ module _ {L : ℕ} {R : Type 0} (S : ℕ) (k : Kind L R) (w : Setting) (lawful :
   extends i b y e p h run clean si s c voted above =
       let (q, e′, p′, place, (sj, votes)) = voted in
       let s′ : Earlier (e′ ∷ p′) h = (q, place) in
-      let v = f .ballot e′ p′ y (run-earlier S k w f (e′ ∷ p′) h s′ run) votes in
+      let v = f .ballot e′ p′ y (run-earlier S k w (e′ ∷ p′) h s′ run) votes in
       elim (rank-cases (y .rank) (b .rank) above) [
         | inl same ↦
-            let mine : Voted S k w b (e ∷ p) = f .shelved-voted i (e ∷ p) b si (run-earlier S k w f (e ∷ p) h s run) (commit-shelved S k w i b e p c) in
+            let mine : Voted S k w b (e ∷ p) = f .shelved-voted i (e ∷ p) b si (run-earlier S k w (e ∷ p) h s run) (commit-shelved S k w i b e p c) in
             inl (one-block-a-rank S k w lawful f y b h run clean voted (voted-later S k w b (e ∷ p) h s mine) same)
         | inr (inl (view, later)) ↦ inr (later-extends y (b .rank) (v .lawful) (omega arith) (inl (view, later)))
         | inr (inr higher) ↦

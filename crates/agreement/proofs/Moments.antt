@@ -1,9 +1,13 @@
 -- Earlier moments of a history, and what held of one of its calls.
+use Prim.Native.Nat.{ℕ}
 use mathlib.Core.Path.{_≡_, refl, sym, ap, subst, _∙_}
 use mathlib.Core.List.{[], _∷_, _++_}
 use mathlib.Core.Logic.{_⊎_, inl, inr}
 use Rattle.std.proofs.shelf.Lists.{append-assoc}
+use Rattle.content.specs.Kinds.{Kind}
 use Rattle.agreement.specs.History.{Always, Event, History, Once}
+use Rattle.agreement.specs.Run.{Moment, Run}
+use Rattle.agreement.specs.Setting.{Setting}
 use Rattle.agreement.proofs.Facts.{Earlier, Was}
 
 pub earlier-refl : (h : History) → Earlier h h
@@ -62,6 +66,13 @@ module _ (P : Event → History → Type 0) where
   pub was-later : (p h : History) → Earlier p h → Was P p → Was P h
   was-later p h s (q, e, r, t, x) = (s .0 ++ q, e, r, s .1 ∙ (ap (λ z. s .0 ++ z) t ∙ sym (append-assoc (s .0) q (e ∷ r))), x)
 
+  -- of the newest call, or of one before it
+  pub was-here : (e : Event) (p : History) → P e p → Was P (e ∷ p)
+  was-here e p x = ([], e, p, refl, x)
+
+  pub was-more : (e : Event) (p : History) → Was P p → Was P (e ∷ p)
+  was-more e p x = was-later p (e ∷ p) (earlier-step e p) x
+
   always-past : (q p : History) → Always P (q ++ p) → Always P p
   always-past [] p a = a
   always-past (x ∷ q) p a = always-past q p (a .1)
@@ -78,3 +89,16 @@ module _ (P : Event → History → Type 0) where
   never-from-always Q rules-out [] a o = elim o [ ]
   never-from-always Q rules-out (e ∷ h) a (inl x) = rules-out e h (a .0) x
   never-from-always Q rules-out (e ∷ h) a (inr o) = never-from-always Q rules-out h (a .1) o
+
+module _ {L : ℕ} {R : Type 0} (S : ℕ) (k : Kind L R) (w : Setting) where
+  -- every moment of a run is a run
+  pub run-earlier : (p h : History) → Earlier p h → Run S k w h → Run S k w p
+  run-earlier p h s run = always-earlier (Moment S k w) p h s run
+
+  stays-on : (Q : History → Type 0) → ((e : Event) (r : History) → Run S k w (e ∷ r) → Q r → Q (e ∷ r)) → (q p : History) → Run S k w (q ++ p) → Q p → Q (q ++ p)
+  stays-on Q step [] p run x = x
+  stays-on Q step (e ∷ q) p run x = step e (q ++ p) run (stays-on Q step q p (run .1) x)
+
+  -- what every call of a run keeps holds at every later moment
+  pub stays : (Q : History → Type 0) → ((e : Event) (r : History) → Run S k w (e ∷ r) → Q r → Q (e ∷ r)) → (p h : History) → Run S k w h → Earlier p h → Q p → Q h
+  stays Q step p h run s x = subst Q (sym (s .1)) (stays-on Q step (s .0) p (subst (Run S k w) (s .1) run) x)

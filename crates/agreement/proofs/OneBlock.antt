@@ -16,8 +16,8 @@ use Rattle.agreement.specs.History.{Always, Event, History, Refused, clock}
 use Rattle.agreement.specs.Run.{Hands, Run}
 use Rattle.agreement.specs.Setting.{Lawful, Setting, Sound}
 use Rattle.agreement.proofs.Facts.{Acceptance, AsCertificate, Ballot, Earlier, OnShelf, ParentOn, Primed, SeatFacts, SendsSome, Voted, VotesFor, shelf, stage, state}
-use Rattle.agreement.proofs.Moments.{always-at, always-earlier, cases-earlier, cases-last, earlier-before, earlier-trans, was-later}
-use Rattle.agreement.proofs.Delivery.{clocks-close, delivered, handed-alike, run-earlier}
+use Rattle.agreement.proofs.Moments.{always-at, always-earlier, cases-earlier, cases-last, earlier-before, earlier-trans, run-earlier, was-later}
+use Rattle.agreement.proofs.Delivery.{clocks-close, delivered, handed-alike}
 use Rattle.agreement.proofs.Sync.{certificate-handed, proposal-handed, sync-far, sync-near}
 
 -- the numbers of a lawful block: at a later turn it stands on a block of its own view, one turn before
@@ -57,7 +57,7 @@ module _ {L : ℕ} {R : Type 0} (S : ℕ) (k : Kind L R) (w : Setting) (lawful :
       let (c, of, good) = certificate-handed S k w b m (d .at) reads (d .hands) in
       let (orphan, rival, fork) = always-at (CleanAt S k w) (d .at) (d .past) h (d .before) clean in
       let there : OnShelf (c .block) (shelf S k w (d .at .who) (d .at ∷ d .past)) =
-          f .certificate-carried (d .at) (d .past) c (run-earlier S k w f (d .at ∷ d .past) h (d .before) run) good orphan rival fork in
+          f .certificate-carried (d .at) (d .past) c (run-earlier S k w (d .at ∷ d .past) h (d .before) run) good orphan rival fork in
       (d .at ∷ d .past, d .before, subst (λ z. OnShelf z (shelf S k w j (d .at ∷ d .past))) of (subst (λ z. OnShelf (c .block) (shelf S k w z (d .at ∷ d .past))) (d .mine) there), d .by)
 
   -- at a later turn, a seat that was passed the proposal is on in its view, or past it
@@ -68,10 +68,10 @@ module _ {L : ℕ} {R : Type 0} (S : ℕ) (k : Kind L R) (w : Setting) (lawful :
       elim (acc .parent-there) [
         | inl one ↦ absurd (omega arith)
         | inr (c, on, rank, _) ↦
-            let run-r : Run S k w (x ∷ r) = run-earlier S k w f (x ∷ r) g s (run .1) in
+            let run-r : Run S k w (x ∷ r) = run-earlier S k w (x ∷ r) g s (run .1) in
             let (q, e, p, place, (sl, votes)) = f .shelved-voted i (x ∷ r) c si run-r on in
             let there : Earlier (e ∷ p) g = earlier-trans (e ∷ p) (x ∷ r) g (q, place) s in
-            let ballot = f .ballot e p c (run-earlier S k w f (e ∷ p) g there (run .1)) votes in
+            let ballot = f .ballot e p c (run-earlier S k w (e ∷ p) g there (run .1)) votes in
             let (x′, r′, place′, _, acc′) = accepted-before S k w c e p g there ballot in
             let view : c .rank .view ≡ b .rank .view = ap (λ (z : Rank). z .view) rank ∙ same-view in
             let at : clock S k w (e .who) (x′ ∷ r′) ≡ ballot .accepted = acc′ .at-tick in
@@ -93,9 +93,9 @@ module _ {L : ℕ} {R : Type 0} (S : ℕ) (k : Kind L R) (w : Setting) (lawful :
       let by : clock S k w j (d .at ∷ d .past) ≤ clock S k w (x .who) (x ∷ r) + w .delta = d .by in
       let (seal, parent, good) = proposal-handed S k w b m (d .at) reads (d .hands) in
       let (orphan, rival, fork) = always-at (CleanAt S k w) (d .at) (d .past) h (d .before) clean in
-      let run-d : Run S k w (d .at ∷ d .past) = run-earlier S k w f (d .at ∷ d .past) h (d .before) run in
+      let run-d : Run S k w (d .at ∷ d .past) = run-earlier S k w (d .at ∷ d .past) h (d .before) run in
       let near-x : 2 * b .rank .view ≤ stage (state S k w j (x ∷ r)) + 1 =
-          sync-near S k w f i j (b .rank .view) (x ∷ r) (run-earlier S k w f (x ∷ r) h s run) si sj (acc .on-after) in
+          sync-near S k w f i j (b .rank .view) (x ∷ r) (run-earlier S k w (x ∷ r) h s run) si sj (acc .on-after) in
       let up : stage (state S k w j (x ∷ r)) ≤ stage (state S k w j (d .past)) = f .stage-rises j (x ∷ r) (d .past) sj (run-d .1) (d .after) in
       let near : 2 * b .rank .view ≤ stage (state S k w j (d .past)) + 1 = omega arith in
       let far : 0 < b .rank .turn → 2 * b .rank .view ≤ stage (state S k w j (d .past)) =
@@ -114,7 +114,7 @@ module _ {L : ℕ} {R : Type 0} (S : ℕ) (k : Kind L R) (w : Setting) (lawful :
   one-vote b c e e′ p p′ h run clean s s′ si sj v v′ votes first same =
       let (x, r, place, _, acc) = accepted-before S k w b e p h s v in
       let j = e′ .who in
-      let run′ : Run S k w (e′ ∷ p′) = run-earlier S k w f (e′ ∷ p′) h s′ run in
+      let run′ : Run S k w (e′ ∷ p′) = run-earlier S k w (e′ ∷ p′) h s′ run in
       let at : clock S k w (e .who) (x ∷ r) ≡ v .accepted = acc .at-tick in
       let waited : v′ .accepted + (w .delta + 1) ≤ clock S k w j (e′ ∷ p′) = v′ .waited in
       let some : 1 ≤ w .delta = lawful .some-delta in
@@ -123,7 +123,7 @@ module _ {L : ℕ} {R : Type 0} (S : ℕ) (k : Kind L R) (w : Setting) (lawful :
             | inl b ↦ b
             | inr a ↦
                 let close : clock S k w j (x ∷ r) ≤ clock S k w (e .who) (x ∷ r) + 1 =
-                    clocks-close S k w f (x ∷ r) j (e .who) (run-earlier S k w f (x ∷ r) h place run) sj si in
+                    clocks-close S k w f (x ∷ r) j (e .who) (run-earlier S k w (x ∷ r) h place run) sj si in
                 let up : clock S k w j (e′ ∷ p′) ≤ clock S k w j (x ∷ r) = f .clock-rises j (e′ ∷ p′) (x ∷ r) a in
                 absurd (omega arith)
           ] in
@@ -141,8 +141,8 @@ module _ {L : ℕ} {R : Type 0} (S : ℕ) (k : Kind L R) (w : Setting) (lawful :
   one-block-a-rank b c h run clean (q, e, p, place, (si, votes)) (q′, e′, p′, place′, (sj, votes′)) same =
       let s : Earlier (e ∷ p) h = (q, place) in
       let s′ : Earlier (e′ ∷ p′) h = (q′, place′) in
-      let v = f .ballot e p b (run-earlier S k w f (e ∷ p) h s run) votes in
-      let v′ = f .ballot e′ p′ c (run-earlier S k w f (e′ ∷ p′) h s′ run) votes′ in
+      let v = f .ballot e p b (run-earlier S k w (e ∷ p) h s run) votes in
+      let v′ = f .ballot e′ p′ c (run-earlier S k w (e′ ∷ p′) h s′ run) votes′ in
       elim (cases-lt (v .accepted) (v′ .accepted)) [
         | inl l ↦ sym (one-vote b c e e′ p p′ h run clean s s′ si sj v v′ votes′ (omega arith) (sym same))
         | inr l ↦ one-vote c b e′ e p′ p h run clean s′ s sj si v′ v votes l same
@@ -152,12 +152,12 @@ module _ {L : ℕ} {R : Type 0} (S : ℕ) (k : Kind L R) (w : Setting) (lawful :
   pub parent-everywhere : (b : Block R) (j : ℕ) (h : History) → Run S k w h → Clean S k w h → Sound w j → Voted S k w b h → ParentOn S k w b (shelf S k w j h)
   parent-everywhere b j h run clean sj (q, e, p, place, (si, votes)) =
       let s : Earlier (e ∷ p) h = (q, place) in
-      let v = f .ballot e p b (run-earlier S k w f (e ∷ p) h s run) votes in
+      let v = f .ballot e p b (run-earlier S k w (e ∷ p) h s run) votes in
       let (x, r, there, _, acc) = accepted-before S k w b e p h s v in
       elim (acc .parent-there) [
         | inl one ↦ inl one
         | inr (c, on, rank, height) ↦
-            let (q′, y, z, place′, (mine, _, sends)) = f .shelved-sent (e .who) (x ∷ r) c si (run-earlier S k w f (x ∷ r) h there run) on in
+            let (q′, y, z, place′, (mine, _, sends)) = f .shelved-sent (e .who) (x ∷ r) c si (run-earlier S k w (x ∷ r) h there run) on in
             let tick : clock S k w (y .who) (y ∷ z) ≡ clock S k w (e .who) (y ∷ z) = ap (λ i. clock S k w i (y ∷ z)) mine in
             let at : clock S k w (e .who) (x ∷ r) ≡ v .accepted = acc .at-tick in
             let up : clock S k w (e .who) (y ∷ z) ≤ clock S k w (e .who) (x ∷ r) = f .clock-rises (e .who) (y ∷ z) (x ∷ r) (q′, place′) in

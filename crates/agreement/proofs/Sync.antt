@@ -20,8 +20,8 @@ use Rattle.agreement.specs.History.{Call, Event, History, clock, hand, inboxOf
 use Rattle.agreement.specs.Run.{Hands, Run, Sealed, bare, bareBody}
 use Rattle.agreement.specs.Setting.{Setting, Sound}
 use Rattle.agreement.proofs.Facts.{AsCertificate, AsNotice, AsProposal, Earlier, GoodMessage, OnIn, SeatFacts, stage, state}
-use Rattle.agreement.proofs.Moments.{earlier-trans}
-use Rattle.agreement.proofs.Delivery.{delivered, run-earlier}
+use Rattle.agreement.proofs.Moments.{earlier-trans, run-earlier}
+use Rattle.agreement.proofs.Delivery.{delivered}
 
 module _ {R : Type 0} where
   -- messages that are alike apart from their seals
@@ -114,14 +114,14 @@ module _ {L : ℕ} {R : Type 0} (S : ℕ) (k : Kind L R) (w : Setting) (f : Seat
       let (q′, x, r, place′, (mine, (m, sends, reads), late)) = entry .notice in
       let there : Earlier (e ∷ p) h = (q, place) in
       let sent-there : Earlier (x ∷ r) (e ∷ p) = (e ∷ q′, ap (λ z. e ∷ z) place′) in
-      let run-there : Run S k w (e ∷ p) = run-earlier S k w f (e ∷ p) h there run in
+      let run-there : Run S k w (e ∷ p) = run-earlier S k w (e ∷ p) h there run in
       let same : clock S k w (x .who) (x ∷ r) ≡ clock S k w i (x ∷ r) = ap (λ z. clock S k w z (x ∷ r)) mine in
       let late′ : clock S k w i (x ∷ r) + (2 * w .delta + 1) ≡ clock S k w i (e ∷ p) = late in
       let d = delivered S k w f x r (e ∷ p) m i j run-there sent-there sends si sj (omega arith) in
       let (mask, seals, good) = notice-handed S k w u m (d .at) reads (d .hands) in
       let low : clock S k w j (d .at ∷ d .past) ≤ clock S k w (x .who) (x ∷ r) + w .delta = d .by in
       let carried : 2 * u + 1 ≤ stage (state S k w (d .at .who) (d .at ∷ d .past)) =
-          f .notice-carried (d .at) (d .past) u mask seals (run-earlier S k w f (d .at ∷ d .past) (e ∷ p) (d .before) run-there) good (omega arith) in
+          f .notice-carried (d .at) (d .past) u mask seals (run-earlier S k w (d .at ∷ d .past) (e ∷ p) (d .before) run-there) good (omega arith) in
       record {
         entered = e ∷ p;
         heard = d .at ∷ d .past;
@@ -147,7 +147,7 @@ module _ {L : ℕ} {R : Type 0} (S : ℕ) (k : Kind L R) (w : Setting) (f : Seat
       clock S k w i g + w .delta ≤ clock S k w j h → 2 * v ≤ stage (state S k w j h)
   sync-far i j zero g h run s si sj on late = omega arith
   sync-far i j (suc u) g h run s si sj on late =
-      let a = warned i j u g (run-earlier S k w f g h s run) si sj on in
+      let a = warned i j u g (run-earlier S k w g h s run) si sj on in
       let past : Earlier (a .heard) h = earlier-trans (a .heard) g h (earlier-trans (a .heard) (a .entered) g (a .first) (a .then)) s in
       let up : stage (state S k w j (a .heard)) ≤ stage (state S k w j h) = f .stage-rises j (a .heard) h sj run past in
       let left : 2 * u + 1 ≤ stage (state S k w j (a .heard)) = a .left in
