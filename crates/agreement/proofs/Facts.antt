@@ -131,7 +131,6 @@ module _ {L : ℕ} {R : Type 0} (S : ℕ) (k : Kind L R) (w : Setting) where
     pub mine : e .who ≡ i
     pub at-tick : clock S k w i (e ∷ p) ≡ a
     pub on-after : OnIn i (b .rank .view) (e ∷ p)
-    pub turn-after : state i (e ∷ p) .turn ≡ b .rank .turn
     pub relays : SendsSome (AsProposal b) e p
     pub parent-there : ParentOn b (shelf i (e ∷ p))
 
@@ -191,8 +190,6 @@ module _ {L : ℕ} {R : Type 0} (S : ℕ) (k : Kind L R) (w : Setting) where
     -- commits
     pub commit-on : (e : Event) (p : History) (b : Block R) → Run S k w (e ∷ p) → Did S k w (λ o. 0 < o .height) e p → Takes S k w b e p → OnIn (e .who) (b .rank .view) p
     pub committed-was : (i : ℕ) (h : History) (b : Block R) → Sound w i → Run S k w h → state i h .committed ≡ Some b → Commits S k w i b h
-    pub commits-rise : (e : Event) (p : History) (b c : Block R) → Run S k w (e ∷ p) → Did S k w (λ o. 0 < o .height) e p → Takes S k w b e p →
-        state (e .who) p .committed ≡ Some c → OnShelf c (shelf (e .who) p) × (below (c .rank) (b .rank) ≡ true)
     -- refusals
     pub orphan-because : (e : Event) (p : History) → Run S k w (e ∷ p) → Refused S k w Orphan e p →
         (b : Block R) × Candidate b e p × (ParentOn b (shelf (e .who) p) → ⊥)
