@@ -81,16 +81,16 @@ module _ {L : ℕ} {R : Type 0} (S : ℕ) (k : Kind L R) (w : Setting) (lawful :
       elim (extends S k w lawful f (e .who) c b e′ p′ p (run .1) clean sj s done (candidate .voted) (below-above (c .rank) (b .rank) lower)) [
         | inl same ↦ never-below-itself (c .rank) (subst (λ (z : Block R). below (c .rank) (z .rank) ≡ true) same lower)
         | inr (tall, high) ↦
-          elim parent-on [
-            | inl one ↦ absurd (omega arith)
-            | inr (d, on, rank, height) ↦
-                let line : Descends (shelf S k w (e .who) p) d c =
-                    descends-from-commit S k w lawful f (e .who) (e .who) c d e′ p′ p (run .1) clean sj sj s done on
-                    (subst (λ r. atLeast (Some r) (Some (c .rank)) ≡ true) (sym rank) high) in
-                let not-one : b .height ≡ 1 → ⊥ = λ one. omega arith in
-                let place : parentOf b ≡ Some (d .rank) = cond-false _ _ _ (ne-eqb (b .height) 1 not-one) ∙ ap Some (sym rank) in
-                differ (ap (λ z. readBelow (shelf S k w (e .who) p) z (c .height)) place ∙ f .reads-ancestor (e .who) p d c sj (run .1) line)
-          ]
+            elim parent-on [
+              | inl one ↦ absurd (omega arith)
+              | inr (d, on, rank, height) ↦
+                  let line : Descends (shelf S k w (e .who) p) d c =
+                  descends-from-commit S k w lawful f (e .who) (e .who) c d e′ p′ p (run .1) clean sj sj s done on
+                  (subst (λ r. atLeast (Some r) (Some (c .rank)) ≡ true) (sym rank) high) in
+                  let not-one : b .height ≡ 1 → ⊥ = λ one. omega arith in
+                  let place : parentOf b ≡ Some (d .rank) = cond-false _ _ _ (ne-eqb (b .height) 1 not-one) ∙ ap Some (sym rank) in
+                  differ (ap (λ z. readBelow (shelf S k w (e .who) p) z (c .height)) place ∙ f .reads-ancestor (e .who) p d c sj (run .1) line)
+            ]
       ]
 
   -- by induction over the run, no certificate is refused
@@ -113,7 +113,7 @@ module _ {L : ℕ} {R : Type 0} (S : ℕ) (k : Kind L R) (w : Setting) (lawful :
       let (q′, e′, p′, place′, (mine, takes)) = was-from-once (λ e p. (e .who ≡ i) × Takes S k w c e p) p took in
       let there : Earlier (e′ ∷ p′) h = earlier-trans (e′ ∷ p′) p h (q′, place′) (earlier-before e p h (q, place)) in
       let on-c : OnShelf c (shelf S k w i h) =
-          f .shelf-grows i (e′ ∷ p′) h c there (subst (λ z. OnShelf c (shelf S k w z (e′ ∷ p′))) mine (taken-shelved S k w c e′ p′ takes)) in
+      f .shelf-grows i (e′ ∷ p′) h c there (subst (λ z. OnShelf c (shelf S k w z (e′ ∷ p′))) mine (taken-shelved S k w c e′ p′ takes)) in
       elim (f .shelf-closed i h x si run on-x) [
         | inl one ↦ absurd (omega arith)
         | inr (d, on-d, rank-d, height) ↦
@@ -132,7 +132,7 @@ module _ {L : ℕ} {R : Type 0} (S : ℕ) (k : Kind L R) (w : Setting) (lawful :
         | inl one ↦ absurd (omega arith)
         | inr (d, on-d, rank-d, _) ↦
             let same : d ≡ y = one-block-a-rank S k w lawful f d y h run clean (f .shelved-voted j h d sj run on-d)
-                (f .shelved-voted i h y si run (descends-on (shelf S k w i h) y z rest)) (rank-d ∙ sym rank) in
+            (f .shelved-voted i h y si run (descends-on (shelf S k w i h) y z rest)) (rank-d ∙ sym rank) in
             up x′ y z on-j tall rank height (next (subst (λ (a : Block R). OnShelf a (shelf S k w j h)) same on-d))
       ]
 

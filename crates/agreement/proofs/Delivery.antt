@@ -99,16 +99,16 @@ module _ {L : ℕ} {R : Type 0} (S : ℕ) (k : Kind L R) (w : Setting) (f : Seat
       elim (cases-lt last (clock S k w l h)) [
         | inl more ↦ handing-more j m last (e ∷ p) h y (rec more)
         | inr less ↦
-          elim (f .clock-moves l y h) [
-            | inl same ↦ absurd (omega arith)
-            | inr t ↦
-              elim (run .0 .timely (y ∷ q) e p refl m sends l sl late j sj) [
-                | inl x ↦ absurd (hands-no-tick m (y .what) (x .1) (t .1))
-                | inr o ↦
-                    handing-more j m last (e ∷ p) h y
-                    (handing-from j l m last q (e ∷ p) (run .1) sj sl (omega arith) (was-from-once (λ x _. (x .who ≡ j) × Hands S k w m (x .what)) q o))
-              ]
-          ]
+            elim (f .clock-moves l y h) [
+              | inl same ↦ absurd (omega arith)
+              | inr t ↦
+                  elim (run .0 .timely (y ∷ q) e p refl m sends l sl late j sj) [
+                    | inl x ↦ absurd (hands-no-tick m (y .what) (x .1) (t .1))
+                    | inr o ↦
+                        handing-more j m last (e ∷ p) h y
+                        (handing-from j l m last q (e ∷ p) (run .1) sj sl (omega arith) (was-from-once (λ x _. (x .who ≡ j) × Hands S k w m (x .what)) q o))
+                  ]
+            ]
       ]
 
   -- what a call sends in tick t is handed to every sound seat by tick t + delta, once a sound clock is past that

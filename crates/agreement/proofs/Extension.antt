@@ -56,19 +56,19 @@ rank-cases a r e =
     elim (cases-lt (r .view) (a .view)) [
       | inl higher ↦ inr (inr higher)
       | inr view-le ↦
-        elim (cases-lt (a .view) (r .view)) [
-          | inl lower ↦ absurd (no-lower-view a r e lower)
-          | inr view-ge ↦
-              let v : a .view ≡ r .view = omega arith in
-              elim (cases-lt (r .turn) (a .turn)) [
-                | inl later ↦ inr (inl (v, later))
-                | inr turn-le ↦
-                  elim (cases-lt (a .turn) (r .turn)) [
-                    | inl sooner ↦ absurd (no-lower-turn a r e v sooner)
-                    | inr turn-ge ↦ let t : a .turn ≡ r .turn = omega arith in inl (λ i. record { view = v i; turn = t i })
-                  ]
-              ]
-        ]
+          elim (cases-lt (a .view) (r .view)) [
+            | inl lower ↦ absurd (no-lower-view a r e lower)
+            | inr view-ge ↦
+                let v : a .view ≡ r .view = omega arith in
+                elim (cases-lt (r .turn) (a .turn)) [
+                  | inl later ↦ inr (inl (v, later))
+                  | inr turn-le ↦
+                      elim (cases-lt (a .turn) (r .turn)) [
+                        | inl sooner ↦ absurd (no-lower-turn a r e v sooner)
+                        | inr turn-ge ↦ let t : a .turn ≡ r .turn = omega arith in inl (λ i. record { view = v i; turn = t i })
+                      ]
+                ]
+          ]
     ]
 
 turn-before : (p r : Rank) (view turn : ℕ) → p .view ≡ view → p .turn + 1 ≡ turn → ((view ≡ r .view) × (r .turn < turn)) ⊎ (r .view < view) → atLeast (Some p) (Some r) ≡ true
@@ -101,7 +101,7 @@ module _ {L : ℕ} {R : Type 0} (S : ℕ) (k : Kind L R) (w : Setting) where
   pub taken-shelved : (b : Block R) (e : Event) (p : History) → Takes S k w b e p → OnShelf b (shelf S k w (e .who) (e ∷ p))
   taken-shelved b e p (o, done, grown) =
       let now : shelf S k w (e .who) (e ∷ p) ≡ shelf S k w (e .who) p ++ (b ∷ []) =
-          ap (λ (d : Desk S R). d .blocks) (own-desk e p) ∙ (after-blocks (e .who) (e .what) (desk S k w (e .who) p) o done ∙ grown) in
+      ap (λ (d : Desk S R). d .blocks) (own-desk e p) ∙ (after-blocks (e .who) (e .what) (desk S k w (e .who) p) o done ∙ grown) in
       subst (OnShelf b) (sym now) (among-end b (shelf S k w (e .who) p))
 
   -- a call by which a seat committed a block itself
@@ -133,12 +133,12 @@ module _ {L : ℕ} {R : Type 0} (S : ℕ) (k : Kind L R) (w : Setting) (lawful :
       elim (cases-earlier (e ∷ p) g h s t) [
         | inl first ↦ first
         | inr late ↦
-          elim (cases-last g p e late) [
-            | inl same ↦ subst (Earlier (e ∷ p)) same (earlier-refl (e ∷ p))
-            | inr old ↦
-                let up : stage (state S k w i g) ≤ stage (state S k w i p) = f .stage-rises i g p si (run-e .1) old in
-                absurd (omega arith)
-          ]
+            elim (cases-last g p e late) [
+              | inl same ↦ subst (Earlier (e ∷ p)) same (earlier-refl (e ∷ p))
+              | inr old ↦
+                  let up : stage (state S k w i g) ≤ stage (state S k w i p) = f .stage-rises i g p si (run-e .1) old in
+                  absurd (omega arith)
+            ]
       ]
 
   -- the lock of a sound seat on in a later view covers every block that a sound seat committed
@@ -160,7 +160,7 @@ module _ {L : ℕ} {R : Type 0} (S : ℕ) (k : Kind L R) (w : Setting) (lawful :
       let by : clock S k w i heard ≤ clock S k w (x .who) (x ∷ r) + w .delta = d .by in
       let (mask, seals, good) = notice-handed S k w v m (d .at) reads (d .hands) in
       let carried : 2 * v + 1 ≤ stage (state S k w (d .at .who) heard) =
-          f .notice-carried (d .at) (d .past) v mask seals (run-earlier S k w heard (y ∷ z) (d .before) run-y) good (omega arith) in
+      f .notice-carried (d .at) (d .past) v mask seals (run-earlier S k w heard (y ∷ z) (d .before) run-y) good (omega arith) in
       let left : 2 * v + 1 ≤ stage (state S k w i heard) = subst (λ a. 2 * v + 1 ≤ stage (state S k w a heard)) (d .mine) carried in
       let heard-h : Earlier heard h = earlier-trans heard (y ∷ z) h (d .before) (earlier-trans (y ∷ z) g h entered t) in
       let first : Earlier (e ∷ p) heard = commit-before i v b e p heard h run si s heard-h c low left in
@@ -171,7 +171,7 @@ module _ {L : ℕ} {R : Type 0} (S : ℕ) (k : Kind L R) (w : Setting) (lawful :
       let up″ : clock S k w i (x″ ∷ r″) ≤ clock S k w i heard = f .clock-rises i (x″ ∷ r″) heard sent″ in
       let clean-y : Clean S k w (y ∷ z) = clean-earlier S k w (y ∷ z) h (earlier-trans (y ∷ z) g h entered t) clean in
       let (a, past, shelved, in-time) = shelved-everywhere S k w lawful f b x″ r″ (y ∷ z) j j run-y clean-y
-          (earlier-trans (x″ ∷ r″) heard (y ∷ z) sent″ (d .before)) sends″ sj sj (omega arith) in
+      (earlier-trans (x″ ∷ r″) heard (y ∷ z) sent″ (d .before)) sends″ sj sj (omega arith) in
       let in-time′ : clock S k w j a ≤ clock S k w (x″ .who) (x″ ∷ r″) + w .delta = in-time in
       elim (cases-last a z y past) [
         | inl same ↦
@@ -200,18 +200,18 @@ module _ {L : ℕ} {R : Type 0} (S : ℕ) (k : Kind L R) (w : Setting) (lawful :
             inl (one-block-a-rank S k w lawful f y b h run clean voted (voted-later S k w b (e ∷ p) h s mine) same)
         | inr (inl (view, later)) ↦ inr (later-extends y (b .rank) (v .lawful) (omega arith) (inl (view, later)))
         | inr (inr higher) ↦
-          elim (cases-lt 0 (y .rank .turn)) [
-            | inl later ↦ inr (later-extends y (b .rank) (v .lawful) later (inr higher))
-            | inr first ↦
-                let (u, is, low) = one-before (y .rank .view) (b .rank .view) higher in
-                let on : OnIn S k w (e′ .who) (suc u) p′ = subst (λ z. OnIn S k w (e′ .who) z p′) is (v .on-there) in
-                let lock : atLeast (state S k w (e′ .who) p′ .lock) (Some (b .rank)) ≡ true =
-                    lock-holds i (e′ .who) u b e p p′ h run clean si sj s c (earlier-before e′ p′ h s′) on low in
-                let (no-root, parent) = parent-above y (b .rank)
-                    (at-least-through (parentOf y) (state S k w (e′ .who) p′ .lock) (Some (b .rank)) (v .above-lock (omega arith)) lock) in
-                let high : 1 ≤ y .height = tall-enough (y .rank .view) (y .rank .turn) (y .height) (y .parent .view) (y .parent .turn) (v .lawful .numbers) in
-                inr (omega (arith, no-root), parent)
-          ]
+            elim (cases-lt 0 (y .rank .turn)) [
+              | inl later ↦ inr (later-extends y (b .rank) (v .lawful) later (inr higher))
+              | inr first ↦
+                  let (u, is, low) = one-before (y .rank .view) (b .rank .view) higher in
+                  let on : OnIn S k w (e′ .who) (suc u) p′ = subst (λ z. OnIn S k w (e′ .who) z p′) is (v .on-there) in
+                  let lock : atLeast (state S k w (e′ .who) p′ .lock) (Some (b .rank)) ≡ true =
+                  lock-holds i (e′ .who) u b e p p′ h run clean si sj s c (earlier-before e′ p′ h s′) on low in
+                  let (no-root, parent) = parent-above y (b .rank)
+                  (at-least-through (parentOf y) (state S k w (e′ .who) p′ .lock) (Some (b .rank)) (v .above-lock (omega arith)) lock) in
+                  let high : 1 ≤ y .height = tall-enough (y .rank .view) (y .rank .turn) (y .height) (y .parent .view) (y .parent .turn) (v .lawful .numbers) in
+                  inr (omega (arith, no-root), parent)
+            ]
       ]
 
   -- so on every sound shelf a committed block is an ancestor of every block at or above it
@@ -223,15 +223,15 @@ module _ {L : ℕ} {R : Type 0} (S : ℕ) (k : Kind L R) (w : Setting) (lawful :
       absurd (omega arith)
   walk (suc n) i j b y e p h run clean si sj s c small on above =
       let rec : (z : Block R) → z .height ≤ n → OnShelf z (shelf S k w j h) → atLeast (Some (z .rank)) (Some (b .rank)) ≡ true → Descends (shelf S k w j h) z b =
-          λ z. walk n i j b z e p h run clean si sj s c in
+      λ z. walk n i j b z e p h run clean si sj s c in
       elim (extends i b y e p h run clean si s c (f .shelved-voted j h y sj run on) above) [
         | inl same ↦ subst (Descends (shelf S k w j h) y) same (self y on)
         | inr (tall, high) ↦
-          elim (f .shelf-closed j h y sj run on) [
-            | inl one ↦ absurd (omega arith)
-            | inr (z, there, rank, height) ↦
-                up y z b on tall rank height (rec z (omega arith) there (subst (λ r. atLeast (Some r) (Some (b .rank)) ≡ true) (sym rank) high))
-          ]
+            elim (f .shelf-closed j h y sj run on) [
+              | inl one ↦ absurd (omega arith)
+              | inr (z, there, rank, height) ↦
+                  up y z b on tall rank height (rec z (omega arith) there (subst (λ r. atLeast (Some r) (Some (b .rank)) ≡ true) (sym rank) high))
+            ]
       ]
 
   pub descends-from-commit : (i j : ℕ) (b y : Block R) (e : Event) (p h : History) → Run S k w h → Clean S k w h → Sound w i → Sound w j →

@@ -57,7 +57,7 @@ module _ {L : ℕ} {R : Type 0} (S : ℕ) (k : Kind L R) (w : Setting) (lawful :
       let (c, of, good) = certificate-handed S k w b m (d .at) reads (d .hands) in
       let (orphan, rival, fork) = always-at (CleanAt S k w) (d .at) (d .past) h (d .before) clean in
       let there : OnShelf (c .block) (shelf S k w (d .at .who) (d .at ∷ d .past)) =
-          f .certificate-carried (d .at) (d .past) c (run-earlier S k w (d .at ∷ d .past) h (d .before) run) good orphan rival fork in
+      f .certificate-carried (d .at) (d .past) c (run-earlier S k w (d .at ∷ d .past) h (d .before) run) good orphan rival fork in
       (d .at ∷ d .past, d .before, subst (λ z. OnShelf z (shelf S k w j (d .at ∷ d .past))) of (subst (λ z. OnShelf (c .block) (shelf S k w z (d .at ∷ d .past))) (d .mine) there), d .by)
 
   -- at a later turn, a seat that was passed the proposal is on in its view, or past it
@@ -95,16 +95,16 @@ module _ {L : ℕ} {R : Type 0} (S : ℕ) (k : Kind L R) (w : Setting) (lawful :
       let (orphan, rival, fork) = always-at (CleanAt S k w) (d .at) (d .past) h (d .before) clean in
       let run-d : Run S k w (d .at ∷ d .past) = run-earlier S k w (d .at ∷ d .past) h (d .before) run in
       let near-x : 2 * b .rank .view ≤ stage (state S k w j (x ∷ r)) + 1 =
-          sync-near S k w f i j (b .rank .view) (x ∷ r) (run-earlier S k w (x ∷ r) h s run) si sj (acc .on-after) in
+      sync-near S k w f i j (b .rank .view) (x ∷ r) (run-earlier S k w (x ∷ r) h s run) si sj (acc .on-after) in
       let up : stage (state S k w j (x ∷ r)) ≤ stage (state S k w j (d .past)) = f .stage-rises j (x ∷ r) (d .past) sj (run-d .1) (d .after) in
       let near : 2 * b .rank .view ≤ stage (state S k w j (d .past)) + 1 = omega arith in
       let far : 0 < b .rank .turn → 2 * b .rank .view ≤ stage (state S k w j (d .past)) =
-          turn-reached b i a j x r (d .past) m (d .at) run-d law acc si sj (d .after) (d .hands) in
+      turn-reached b i a j x r (d .past) m (d .at) run-d law acc si sj (d .after) (d .hands) in
       let back = sym (d .mine) in
       let primed : Primed b (state S k w (d .at .who) (d .at ∷ d .past)) =
-          f .proposal-carried (d .at) (d .past) b seal parent run-d good orphan rival fork
-          (subst (λ z. 2 * b .rank .view ≤ stage (state S k w z (d .past)) + 1) back near)
-          (subst (λ z. 0 < b .rank .turn → 2 * b .rank .view ≤ stage (state S k w z (d .past))) back far) in
+      f .proposal-carried (d .at) (d .past) b seal parent run-d good orphan rival fork
+      (subst (λ z. 2 * b .rank .view ≤ stage (state S k w z (d .past)) + 1) back near)
+      (subst (λ z. 0 < b .rank .turn → 2 * b .rank .view ≤ stage (state S k w z (d .past))) back far) in
       (d .at ∷ d .past, d .before, subst (λ z. Primed b (state S k w z (d .at ∷ d .past))) (d .mine) primed, omega arith)
 
   -- the seat that accepted earlier decides what the other can vote for
@@ -119,14 +119,14 @@ module _ {L : ℕ} {R : Type 0} (S : ℕ) (k : Kind L R) (w : Setting) (lawful :
       let waited : v′ .accepted + (w .delta + 1) ≤ clock S k w j (e′ ∷ p′) = v′ .waited in
       let some : 1 ≤ w .delta = lawful .some-delta in
       let before : Earlier (x ∷ r) (e′ ∷ p′) =
-          elim (cases-earlier (x ∷ r) (e′ ∷ p′) h place s′) [
-            | inl b ↦ b
-            | inr a ↦
-                let close : clock S k w j (x ∷ r) ≤ clock S k w (e .who) (x ∷ r) + 1 =
-                    clocks-close S k w f (x ∷ r) j (e .who) (run-earlier S k w (x ∷ r) h place run) sj si in
-                let up : clock S k w j (e′ ∷ p′) ≤ clock S k w j (x ∷ r) = f .clock-rises j (e′ ∷ p′) (x ∷ r) a in
-                absurd (omega arith)
-          ] in
+      elim (cases-earlier (x ∷ r) (e′ ∷ p′) h place s′) [
+        | inl b ↦ b
+        | inr a ↦
+            let close : clock S k w j (x ∷ r) ≤ clock S k w (e .who) (x ∷ r) + 1 =
+            clocks-close S k w f (x ∷ r) j (e .who) (run-earlier S k w (x ∷ r) h place run) sj si in
+            let up : clock S k w j (e′ ∷ p′) ≤ clock S k w j (x ∷ r) = f .clock-rises j (e′ ∷ p′) (x ∷ r) a in
+            absurd (omega arith)
+      ] in
       let (g, past, primed, by) = primed-everywhere b (e .who) (v .accepted) j x r (e′ ∷ p′) run′ (clean-earlier S k w (e′ ∷ p′) h s′ clean) (v .lawful) acc before si sj (omega arith) in
       let by′ : clock S k w j g ≤ v .accepted + w .delta = by in
       elim (cases-last g p′ e′ past) [

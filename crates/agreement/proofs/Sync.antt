@@ -121,7 +121,7 @@ module _ {L : ℕ} {R : Type 0} (S : ℕ) (k : Kind L R) (w : Setting) (f : Seat
       let (mask, seals, good) = notice-handed S k w u m (d .at) reads (d .hands) in
       let low : clock S k w j (d .at ∷ d .past) ≤ clock S k w (x .who) (x ∷ r) + w .delta = d .by in
       let carried : 2 * u + 1 ≤ stage (state S k w (d .at .who) (d .at ∷ d .past)) =
-          f .notice-carried (d .at) (d .past) u mask seals (run-earlier S k w (d .at ∷ d .past) (e ∷ p) (d .before) run-there) good (omega arith) in
+      f .notice-carried (d .at) (d .past) u mask seals (run-earlier S k w (d .at ∷ d .past) (e ∷ p) (d .before) run-there) good (omega arith) in
       record {
         entered = e ∷ p;
         heard = d .at ∷ d .past;
@@ -138,7 +138,7 @@ module _ {L : ℕ} {R : Type 0} (S : ℕ) (k : Kind L R) (w : Setting) (f : Seat
   sync-near i j (suc u) h run si sj on =
       let a = warned i j u h run si sj on in
       let up : stage (state S k w j (a .heard)) ≤ stage (state S k w j h) =
-          f .stage-rises j (a .heard) h sj run (earlier-trans (a .heard) (a .entered) h (a .first) (a .then)) in
+      f .stage-rises j (a .heard) h sj run (earlier-trans (a .heard) (a .entered) h (a .first) (a .then)) in
       let left : 2 * u + 1 ≤ stage (state S k w j (a .heard)) = a .left in
       omega arith
 
