@@ -1,4 +1,5 @@
 pub mod Acceptances
+pub mod Agree
 pub mod Along
 pub mod Ballots
 pub mod Basics
@@ -6,12 +7,16 @@ pub mod Carried
 pub mod Cases
 pub mod Clash
 pub mod Commits
+pub mod Delivery
 pub mod Entries
+pub mod Extension
 pub mod Facts
 pub mod Invariant
 pub mod Keeps
 pub mod Messages
+pub mod Moments
 pub mod Notes
+pub mod OneBlock
 pub mod OneStep
 pub mod Primed
 pub mod Proposals
@@ -24,6 +29,7 @@ pub mod Shelved
 pub mod Shelves
 pub mod Statements
 pub mod Steps
+pub mod Sync
 pub mod Time
 pub mod Unread
 pub mod Verdicts
