@@ -34,3 +34,4 @@ pub mod Time
 pub mod Unread
 pub mod Verdicts
 pub mod Votes
+pub mod Whole
