@@ -1,48 +1,42 @@
 -- What stands behind a vote: the note was accepted delta + 1 ticks before, by a call that passed the proposal on.
-use Prim.Native.Nat.{ℕ, zero, suc, _+_, _-_, _*_, _≤_, _<_, min}
+use Prim.Native.Nat.{ℕ, _+_, _-_, _*_, _≤_, _<_}
 use mathlib.Core.Path.{_≡_, refl, sym, ap, subst, _∙_}
-use mathlib.Core.Bool.{Bool, true, false, cond, not, _&&_, _||_}
-use mathlib.Core.List.{List, [], _∷_, _++_}
+use mathlib.Core.Bool.{Bool, true, false, cond, not}
+use mathlib.Core.List.{List, [], _∷_}
 use mathlib.Core.Logic.{_⊎_, inl, inr}
 use native.Mathlib.Omega.{arith}
-use lib.Dec.{eqb, leb, ltb}
-use Rattle.std.proofs.shelf.Tests.{and-parts, cases-bool, eqb-true, leb-true, ltb-true, or-cases}
+use lib.Dec.{eqb, ltb}
+use Rattle.std.proofs.shelf.Tests.{and-parts, eqb-true, leb-true, ltb-true, or-cases}
 use Rattle.std.specs.declared.option.Option.{Option}
 use Rattle.std.specs.declared.option.Option.the-variants.{Some, None}
-use Rattle.std.specs.declared.result.Result.{Result}
-use Rattle.std.specs.declared.result.Result.the-variants.{Ok, Err}
+use Rattle.std.specs.declared.result.Result.the-variants.{Ok}
 use Rattle.content.specs.Kinds.{Kind}
 use Rattle.wire.specs.Lawful.{LawfulBlock, LawfulParent}
 use Rattle.wire.specs.Layout.{sameBlock}
 use Rattle.wire.specs.Ranks.{Place, atLeast, parentOf, sameRank}
-use Rattle.wire.specs.Reading.{readParts}
 use Rattle.wire.specs.declared.block.Block.{Block}
 use Rattle.wire.specs.declared.block.Rank.{Rank}
 use Rattle.wire.specs.declared.message.Certificate.{Certificate}
-use Rattle.wire.specs.declared.message.Parts.{Parts}
 use Rattle.wire.specs.declared.message.Parts.the-variants.{Proposal, Vote}
 use Rattle.shelf.proofs.Ancestry.{same-ranks}
-use Rattle.shelf.specs.Blocks.{topTurn}
-use Rattle.seat.specs.HandIn.{acceptable, acceptedAt, lastView, slotOpen}
-use Rattle.seat.specs.Offer.{offeredBlock, offers}
-use Rattle.seat.specs.Parts.{isOn, newState, withNote, withNow, withSlip}
-use Rattle.seat.specs.Sends.{Outcome, Sending, relay, sendingBytes, write, zeroSeal}
-use Rattle.seat.specs.Tick.{ripe, roundAt, turnAfter, voteDue, votedFor}
+use Rattle.seat.specs.HandIn.{acceptable, acceptedAt}
+use Rattle.seat.specs.Parts.{isOn, withNote, withSlip}
+use Rattle.seat.specs.Sends.{Outcome, Sending, relay, write, zeroSeal}
+use Rattle.seat.specs.Tick.{ripe, roundAt, votedFor}
 use Rattle.seat.specs.declared.state.Note.{Note}
 use Rattle.seat.specs.declared.state.Phase.{Phase}
 use Rattle.seat.specs.declared.state.Phase.the-variants.{On, Leaving}
-use Rattle.seat.specs.declared.state.Round.{Round}
 use Rattle.seat.specs.declared.state.State.{State}
 use Rattle.seat.specs.declared.state.Terms.{Terms}
-use Rattle.agreement.specs.History.{Desk, Did, Event, History, Is, Sends, clock, desk, inboxOf, result}
+use Rattle.agreement.specs.History.{Desk, Event, History, Is, clock, inboxOf, result}
 use Rattle.agreement.specs.Run.{Moment, Run}
 use Rattle.agreement.specs.Setting.{Lawful, Setting, Sound}
 use Rattle.agreement.proofs.Along.{Ends, Handed, Kept, along, desk-done}
 use Rattle.agreement.proofs.Basics.{none-some, ok-same, some-same, true-false, was-later, was-now}
-use Rattle.agreement.proofs.Facts.{Acceptance, AsProposal, Ballot, NoteIs, OnIn, OnShelf, ParentOn, Primed, SendsSome, VotesFor, Was, shelf, stage, state}
-use Rattle.agreement.proofs.Keeps.{Keeps, ParentIn, freshNote, shelve-cases}
-use Rattle.agreement.proofs.Notes.{NoteAt, NoteInv, Placed, blockOf, lift-note, note-base, note-fine, note-kept}
-use Rattle.agreement.proofs.Sent.{BlameOnly, OfferMade, Passing, SentSo, VoteCast, sent-so}
+use Rattle.agreement.proofs.Facts.{Acceptance, Ballot, NoteIs, ParentOn, Primed, VotesFor, Was, shelf, stage, state}
+use Rattle.agreement.proofs.Keeps.{ParentIn, shelve-cases}
+use Rattle.agreement.proofs.Notes.{NoteInv, Placed, blockOf, lift-note, note-base, note-kept}
+use Rattle.agreement.proofs.Sent.{OfferMade, Passing, VoteCast, sent-so}
 use Rattle.agreement.proofs.Statements.{same-lawful}
 
 pub phase-on : (f : Phase) → isOn f ≡ true → f ≡ On

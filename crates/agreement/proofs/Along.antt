@@ -1,31 +1,26 @@
 -- What every call of a seat keeps holds of the seat along every run.
-use Prim.Native.Nat.{ℕ, zero, suc, _+_, _-_, _*_, _≤_, _<_}
+use Prim.Native.Nat.{ℕ}
 use mathlib.Core.Path.{_≡_, refl, sym, ap, subst, _∙_}
-use mathlib.Core.Bool.{Bool, true, false, cond}
-use mathlib.Core.List.{List, [], _∷_, _++_}
-use mathlib.Core.Logic.{_⊎_, inl, inr}
+use mathlib.Core.Bool.{Bool, true, false}
+use mathlib.Core.List.{List, [], _∷_}
+use mathlib.Core.Logic.{inl, inr}
 use lib.Dec.{eqb}
 use Rattle.std.proofs.shelf.Tests.{cases-bool, eqb-true, eq-eqb, cond-true, cond-false}
-use Rattle.std.specs.declared.option.Option.{Option}
-use Rattle.std.specs.declared.option.Option.the-variants.{Some, None}
 use Rattle.std.specs.declared.result.Result.{Result}
 use Rattle.std.specs.declared.result.Result.the-variants.{Ok, Err}
-use Rattle.content.specs.Kinds.{Bytes, Kind}
+use Rattle.content.specs.Kinds.{Kind}
 use Rattle.content.specs.declared.refusal.Refusal.{Refusal}
-use Rattle.wire.specs.Asked.{Question, asked, judge}
+use Rattle.wire.specs.Asked.{asked, judge}
 use Rattle.wire.specs.Lawful.{LawfulParts}
 use Rattle.wire.specs.Reading.{readParts}
 use Rattle.wire.specs.declared.block.Block.{Block}
 use Rattle.wire.specs.declared.message.Parts.{Parts}
 use Rattle.wire.proofs.OneForm.{lawful-from-read}
-use Rattle.seat.specs.Calls.{blocksAfter, handIn, offer as offerCall, stateAfter, tick as tickCall}
-use Rattle.seat.specs.HandIn.{handParts, idle}
-use Rattle.seat.specs.Offer.{offers}
+use Rattle.seat.specs.Calls.{blocksAfter, stateAfter}
+use Rattle.seat.specs.HandIn.{handParts}
 use Rattle.seat.specs.Parts.{newState, withSlip}
 use Rattle.seat.specs.Sends.{Outcome}
-use Rattle.seat.specs.Tick.{tickStep}
 use Rattle.seat.specs.declared.state.State.{State}
-use Rattle.seat.specs.declared.state.Terms.{Terms}
 use Rattle.agreement.specs.History.{Call, Desk, Event, History, after, desk, hand, inboxOf, offer, outcome, result, sent, tick}
 use Rattle.agreement.specs.Run.{Moment, Run}
 use Rattle.agreement.specs.Setting.{Lawful, Setting, Sound}

@@ -1,31 +1,28 @@
 -- The votes that a seat keeps are for its note, each seal of a sound seat stands on a vote that seat cast; so every certificate that
 -- a seat takes in is of a block that a sound seat voted for.
-use Prim.Native.Nat.{ℕ, zero, suc, _+_, _-_, _*_, _/_, _≤_, _<_, min}
+use Prim.Native.Nat.{ℕ, zero, suc, _+_, _≤_, _<_, min}
 use mathlib.Core.Path.{_≡_, refl, sym, ap, subst, _∙_}
-use mathlib.Core.Bool.{Bool, true, false, cond, not, _&&_, _||_}
-use mathlib.Core.List.{List, [], _∷_, _++_}
-use mathlib.Core.Logic.{_⊎_, inl, inr}
+use mathlib.Core.Bool.{Bool, true, false, cond}
+use mathlib.Core.List.{List, [], _∷_}
+use mathlib.Core.Logic.{inl, inr}
 use native.Mathlib.Omega.{arith}
-use lib.Dec.{eqb, ltb}
-use lib.ListN.{getD, length, replicate, set}
-use lib.Seq.{getD-set-other, getD-set-same}
+use lib.Dec.{eqb}
+use lib.ListN.{getD, replicate, set}
+use lib.Seq.{getD-set-other}
 use Rattle.std.proofs.shelf.Tests.{and-parts, cases-bool, eqb-true, eqb-false}
 use Rattle.std.specs.declared.option.Option.{Option}
 use Rattle.std.specs.declared.option.Option.the-variants.{Some, None}
-use Rattle.std.specs.declared.result.Result.{Result}
-use Rattle.std.specs.declared.result.Result.the-variants.{Ok, Err}
 use Rattle.content.specs.Kinds.{Kind}
 use Rattle.wire.specs.Asked.{Question}
 use Rattle.wire.specs.Lawful.{LawfulBlock}
 use Rattle.wire.specs.Layout.{sameBlock, voteStatement}
-use Rattle.wire.specs.Masks.{Kept as KeptRow, countKept, faults, quorum}
+use Rattle.wire.specs.Masks.{Kept as KeptRow, countKept, quorum}
 use Rattle.wire.specs.declared.block.Block.{Block}
 use Rattle.wire.specs.declared.message.Certificate.{Certificate}
-use Rattle.wire.specs.declared.message.Parts.{Parts}
-use Rattle.wire.specs.declared.message.Parts.the-variants.{Proposal, Vote, Certified}
+use Rattle.wire.specs.declared.message.Parts.the-variants.{Vote}
 use Rattle.shelf.specs.Blocks.{topTurn}
-use Rattle.seat.specs.HandIn.{countable, isNote, lastView, quorate}
-use Rattle.seat.specs.Parts.{isOn, newState, noSeals}
+use Rattle.seat.specs.HandIn.{countable, isNote, lastView}
+use Rattle.seat.specs.Parts.{isOn}
 use Rattle.seat.specs.Tick.{roundAt, turnAfter}
 use Rattle.seat.specs.declared.state.Note.{Note}
 use Rattle.seat.specs.declared.state.Phase.{Phase}
@@ -37,7 +34,7 @@ use Rattle.agreement.specs.Setting.{Lawful, Setting, Sound}
 use Rattle.agreement.proofs.Along.{Ends, Handed, Kept, along-before}
 use Rattle.agreement.proofs.Basics.{none-some, some-same, true-false, was-later}
 use Rattle.agreement.proofs.Facts.{OnShelf, Voted, VotesFor, shelf, state}
-use Rattle.agreement.proofs.Keeps.{Keeps, Source, shelve-cases}
+use Rattle.agreement.proofs.Keeps.{Source, shelve-cases}
 use Rattle.agreement.proofs.Notes.{NoteInv, blockOf, lift-note, note-base, note-kept}
 use Rattle.agreement.proofs.Quorum.{judged-first, kept-sound, unsoundFrom}
 use Rattle.agreement.proofs.Statements.{same-lawful}

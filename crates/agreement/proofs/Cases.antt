@@ -1,12 +1,10 @@
 -- What a call that was carried out can have come to, handler by handler: whatever holds of each way holds of the outcome.
-use Prim.Native.Nat.{ℕ, zero, suc, _+_, _-_, _*_, _≤_, _<_, min}
+use Prim.Native.Nat.{ℕ, _+_, _-_, _*_, min}
 use mathlib.Core.Path.{_≡_, refl, sym, ap, subst, _∙_}
 use mathlib.Core.Bool.{Bool, true, false, cond, not, _&&_, _||_}
-use mathlib.Core.List.{List, [], _∷_, _++_}
+use mathlib.Core.List.{List}
 use mathlib.Core.Logic.{_⊎_, inl, inr}
-use native.Mathlib.Omega.{arith}
 use lib.Dec.{eqb, leb, ltb}
-use lib.ListN.{getD, set}
 use Rattle.std.proofs.shelf.Tests.{and-parts, cond-both}
 use Rattle.std.specs.Options.{isSome}
 use Rattle.std.specs.declared.option.Option.{Option}
@@ -15,24 +13,24 @@ use Rattle.std.specs.declared.result.Result.{Result}
 use Rattle.std.specs.declared.result.Result.the-variants.{Ok, Err}
 use Rattle.content.specs.Kinds.{Kind, readContent}
 use Rattle.content.specs.declared.refusal.Refusal.{Refusal}
-use Rattle.content.specs.declared.refusal.Refusal.the-variants.{SlipOut, SmallOutbox, LastTick, LastView, NotLeader, OfferLeaving, OfferSpoiled, OfferedAlready, NoPlaceLeft, OfferTooSoon, NoLawfulParent}
+use Rattle.content.specs.declared.refusal.Refusal.the-variants.{SlipOut, SmallOutbox, LastView, NotLeader, OfferLeaving, OfferSpoiled, OfferedAlready, NoPlaceLeft, OfferTooSoon, NoLawfulParent}
 use Rattle.wire.specs.Asked.{asked, judge}
 use Rattle.wire.specs.Layout.{sameBlock}
 use Rattle.wire.specs.Reading.{next, readParts}
 use Rattle.wire.specs.declared.block.Block.{Block}
 use Rattle.wire.specs.declared.message.Certificate.{Certificate}
 use Rattle.wire.specs.declared.message.Parts.{Parts}
-use Rattle.wire.specs.declared.message.Parts.the-variants.{Proposal, Vote, Blame, Certified, Notice}
+use Rattle.wire.specs.declared.message.Parts.the-variants.{Vote, Certified}
 use Rattle.shelf.specs.Blocks.{topTurn}
 use Rattle.seat.specs.Calls.{guarded, handIn, lastTickOf, leastOutbox, offer as offerCall, opened, tick as tickCall}
-use Rattle.seat.specs.HandIn.{acceptable, acceptedAt, accepts, addSeal, adds, atNote, blame, blameCounts, carried, certificateOf, clashes, completed, countable, counted, handParts, hasSeal, idle, lastView, leaves, notice, noticeOf, proposal, proposed, quorate, slotOpen, takeIn, taken, vote, voteCounts}
-use Rattle.seat.specs.Offer.{canCarry, lastHeight, lastTurn, mayOffer, nextHeight, offerStep, offers, tooSoon}
+use Rattle.seat.specs.HandIn.{acceptable, acceptedAt, accepts, addSeal, adds, atNote, blame, carried, certificateOf, clashes, completed, countable, counted, handParts, hasSeal, idle, lastView, leaves, notice, noticeOf, proposal, proposed, quorate, slotOpen, takeIn, taken, vote}
+use Rattle.seat.specs.Offer.{canCarry, lastHeight, lastTurn, nextHeight, offers, tooSoon}
 use Rattle.seat.specs.Parts.{isOn, withBlames, withNote, withNow, withVotes}
 use Rattle.seat.specs.Sends.{Outcome, Sending, relay, write, zeroSeal}
 use Rattle.seat.specs.TakeIn.{judgeIn}
 use Rattle.seat.specs.declared.taking.Verdict.{Verdict}
 use Rattle.seat.specs.declared.taking.Verdict.the-variants.{Known, New}
-use Rattle.seat.specs.Tick.{enter, entered, blames, leavingTick, onTick, tickStep, ticked, turnAfter, voteDue, votedFor}
+use Rattle.seat.specs.Tick.{enter, entered, blames, onTick, tickStep, ticked, turnAfter, voteDue, votedFor}
 use Rattle.seat.specs.declared.answer.Word.{Word}
 use Rattle.seat.specs.declared.answer.Word.the-variants.{Idle, Noted, Accepted, Voted}
 use Rattle.seat.specs.declared.state.Note.{Note}

@@ -1,19 +1,18 @@
 -- A sound leader proposes one block a rank, so no seat answers clash to it.
-use Prim.Native.Nat.{ℕ, zero, suc, _+_, _-_, _*_, _≤_, _<_, min}
+use Prim.Native.Nat.{ℕ, _+_, _*_, _≤_, _<_, min}
 use mathlib.Core.Path.{_≡_, refl, sym, ap, subst, _∙_}
-use mathlib.Core.Bool.{Bool, true, false, cond, not, _&&_, _||_}
-use mathlib.Core.List.{List, [], _∷_, _++_}
+use mathlib.Core.Bool.{Bool, true, false, cond, not}
+use mathlib.Core.List.{List, [], _∷_}
 use mathlib.Core.Logic.{_⊎_, inl, inr}
 use native.Mathlib.Omega.{arith}
-use lib.Dec.{eqb, leb, ltb}
-use Rattle.std.proofs.shelf.Tests.{and-parts, cases-bool, eqb-true, eqb-false, ltb-false, or-parts}
+use lib.Dec.{eqb, ltb}
+use Rattle.std.proofs.shelf.Tests.{and-parts, cases-bool, eqb-true, ltb-false, or-parts}
 use Rattle.std.specs.declared.option.Option.{Option}
 use Rattle.std.specs.declared.option.Option.the-variants.{Some, None}
-use Rattle.std.specs.declared.result.Result.{Result}
-use Rattle.std.specs.declared.result.Result.the-variants.{Ok, Err}
+use Rattle.std.specs.declared.result.Result.the-variants.{Ok}
 use Rattle.content.specs.Kinds.{Kind}
 use Rattle.wire.specs.Lawful.{LawfulBlock}
-use Rattle.wire.specs.Layout.{blockBytes, proposalStatement, sameBlock, voteStatement}
+use Rattle.wire.specs.Layout.{blockBytes, proposalStatement, sameBlock}
 use Rattle.wire.specs.Reading.{readParts}
 use Rattle.wire.specs.declared.block.Block.{Block}
 use Rattle.wire.specs.declared.block.Rank.{Rank}
@@ -22,11 +21,11 @@ use Rattle.wire.specs.declared.message.Parts.{Parts}
 use Rattle.wire.specs.declared.message.Parts.the-variants.{Proposal, Vote, Blame, Certified, Notice}
 use Rattle.shelf.specs.Blocks.{topTurn}
 use Rattle.seat.specs.HandIn.{handParts, idle, lastView, proposal, proposed, slotOpen, taken}
-use Rattle.seat.specs.Offer.{lastHeight, lastTurn, nextHeight, offeredBlock, offers}
+use Rattle.seat.specs.Offer.{lastTurn, offeredBlock}
 use Rattle.seat.specs.Parts.{isOn, leave, turnRises, withBest, withOffered}
-use Rattle.seat.specs.Sends.{Outcome, Sending, relay, write, zeroSeal}
-use Rattle.seat.specs.TakeIn.{better, here, judgeIn, shelve}
-use Rattle.seat.specs.Tick.{enter, roundAt, turnAfter}
+use Rattle.seat.specs.Sends.{Outcome, Sending, relay, write}
+use Rattle.seat.specs.TakeIn.{better, shelve}
+use Rattle.seat.specs.Tick.{enter, turnAfter}
 use Rattle.seat.specs.declared.answer.Word.{Word}
 use Rattle.seat.specs.declared.answer.Word.the-variants.{Accepted, Certified as SaysCertified, Clash, Idle, Noted}
 use Rattle.seat.specs.declared.state.Note.{Note}
@@ -34,21 +33,21 @@ use Rattle.seat.specs.declared.state.Phase.{Phase}
 use Rattle.seat.specs.declared.state.Phase.the-variants.{On, Leaving}
 use Rattle.seat.specs.declared.state.State.{State}
 use Rattle.seat.specs.declared.state.Terms.{Terms}
-use Rattle.seat.specs.declared.taking.Verdict.the-variants.{Known, New}
-use Rattle.agreement.specs.History.{Call, Desk, Did, Event, History, Once, Own, Said, desk, hand, inboxOf, offer, outcome, result, sent, tick}
+use Rattle.seat.specs.declared.taking.Verdict.the-variants.{New}
+use Rattle.agreement.specs.History.{Call, Desk, Event, History, Once, Own, Said, desk, hand, inboxOf, offer, result, sent, tick}
 use Rattle.agreement.specs.Run.{Moment, Run}
 use Rattle.agreement.specs.Setting.{Lawful, Setting, Sound}
 use Rattle.agreement.specs.Theorem.{ClashUnderSoundLeader}
 use Rattle.agreement.proofs.Acceptances.{after-call}
-use Rattle.agreement.proofs.Along.{Ends, Handed, Kept, desk-other, handed-good, keep-call}
-use Rattle.agreement.proofs.Basics.{err-ok, none-some, ok-same, some-same, true-false}
+use Rattle.agreement.proofs.Along.{Handed, Kept, desk-other, handed-good, keep-call}
+use Rattle.agreement.proofs.Basics.{ok-same, true-false}
 use Rattle.agreement.proofs.Carried.{empty-reads}
 use Rattle.agreement.proofs.Cases.{proposal-cases, proposed-cases}
-use Rattle.agreement.proofs.Facts.{shelf, stage, state}
-use Rattle.agreement.proofs.Keeps.{Keeps, proposed-leaves, shelve-cases}
-use Rattle.agreement.proofs.Notes.{NoteAt, NoteInv, Placed, blockOf, note-fine, note-kept, proposal-said, slot-placed}
+use Rattle.agreement.proofs.Facts.{stage, state}
+use Rattle.agreement.proofs.Keeps.{proposed-leaves, shelve-cases}
+use Rattle.agreement.proofs.Notes.{NoteInv, Placed, blockOf, note-fine, note-kept, proposal-said, slot-placed}
 use Rattle.agreement.proofs.Primed.{leave-above}
-use Rattle.agreement.proofs.Sent.{BlameOnly, OfferMade, Passing, SentSo, VoteCast, sent-so}
+use Rattle.agreement.proofs.Sent.{BlameOnly, OfferMade, Passing, VoteCast, sent-so}
 use Rattle.agreement.proofs.Statements.{blame-no-proposal, bytes-tell, bytes-tell-rank, proposal-tells, same-self, vote-no-proposal}
 use Rattle.agreement.proofs.Votes.{passing-owns}
 

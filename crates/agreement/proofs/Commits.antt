@@ -1,52 +1,49 @@
 -- Commits: where a seat is when it commits, what it committed last, and where that stands.
-use Prim.Native.Nat.{ℕ, zero, suc, _+_, _-_, _*_, _≤_, _<_, min}
+use Prim.Native.Nat.{ℕ, _+_, _*_, _≤_, _<_, min}
 use mathlib.Core.Path.{_≡_, refl, sym, ap, subst, _∙_}
-use mathlib.Core.Bool.{Bool, true, false, cond, not, _&&_, _||_}
+use mathlib.Core.Bool.{Bool, true, cond}
 use mathlib.Core.List.{List, [], _∷_, _++_}
-use mathlib.Core.Logic.{_⊎_, inl, inr}
+use mathlib.Core.Logic.{inl, inr}
 use native.Mathlib.Omega.{arith}
-use lib.Dec.{eqb, leb, ltb}
-use Rattle.std.proofs.shelf.Tests.{and-from, and-parts, cases-bool, cases-lt, cond-both, eqb-true, eq-eqb, lt-ltb, or-left, or-right}
+use lib.Dec.{eqb, ltb}
+use Rattle.std.proofs.shelf.Tests.{and-from, and-parts, cases-lt, cond-both, eqb-true, eq-eqb, lt-ltb, or-left, or-right}
 use Rattle.std.specs.declared.option.Option.{Option}
 use Rattle.std.specs.declared.option.Option.the-variants.{Some, None}
-use Rattle.std.specs.declared.result.Result.{Result}
-use Rattle.std.specs.declared.result.Result.the-variants.{Ok, Err}
+use Rattle.std.specs.declared.result.Result.the-variants.{Ok}
 use Rattle.content.specs.Kinds.{Kind}
 use Rattle.wire.specs.Lawful.{LawfulBlock}
 use Rattle.wire.specs.Ranks.{below}
 use Rattle.wire.specs.declared.block.Block.{Block}
-use Rattle.wire.specs.declared.block.Rank.{Rank}
 use Rattle.wire.specs.declared.message.Certificate.{Certificate}
 use Rattle.wire.specs.declared.message.Parts.{Parts}
 use Rattle.wire.specs.declared.message.Parts.the-variants.{Proposal, Vote, Blame, Certified, Notice}
-use Rattle.shelf.specs.Blocks.{find, topTurn}
-use Rattle.seat.specs.HandIn.{addSeal, certificateOf, handParts, idle, lastView, proposed, taken}
+use Rattle.shelf.specs.Blocks.{find}
+use Rattle.seat.specs.HandIn.{addSeal, certificateOf, handParts, idle, lastView, taken}
 use Rattle.seat.specs.Parts.{isOn, withVotes}
 use Rattle.seat.specs.Sends.{Outcome, Sending, relay, write}
-use Rattle.seat.specs.TakeIn.{commits, heightOf, here, judgeIn, shelve}
+use Rattle.seat.specs.TakeIn.{commits, heightOf, here, shelve}
 use Rattle.seat.specs.Tick.{blames, entered, tickStep}
 use Rattle.seat.specs.declared.answer.Word.{Word}
 use Rattle.seat.specs.declared.answer.Word.the-variants.{Idle, Voted}
 use Rattle.seat.specs.declared.state.Phase.{Phase}
-use Rattle.seat.specs.declared.state.Phase.the-variants.{On, Leaving}
 use Rattle.seat.specs.declared.state.State.{State}
 use Rattle.seat.specs.declared.state.Terms.{Terms}
-use Rattle.seat.specs.declared.taking.Verdict.the-variants.{Known, New}
+use Rattle.seat.specs.declared.taking.Verdict.the-variants.{New}
 use Rattle.agreement.specs.Committed.{Commits, Takes}
-use Rattle.agreement.specs.History.{Call, Desk, Did, Event, History, Once, desk, hand, offer, outcome, result, sent, tick}
+use Rattle.agreement.specs.History.{Call, Desk, Did, Event, History, desk, hand, offer, outcome, result, sent, tick}
 use Rattle.agreement.specs.Run.{Moment, Run}
 use Rattle.agreement.specs.Setting.{Lawful, Setting, Sound}
 use Rattle.agreement.proofs.Acceptances.{phase-on}
 use Rattle.agreement.proofs.Along.{Ends, Handed, Kept, along, handed-good}
-use Rattle.agreement.proofs.Basics.{none-some, ok-same, some-same, true-false}
+use Rattle.agreement.proofs.Basics.{none-some, ok-same, some-same}
 use Rattle.agreement.proofs.Cases.{blame-cases, by-test, notice-cases, offered-so, proposal-cases, taken-cases, tick-cases, tick-so, vote-cases}
 use Rattle.agreement.proofs.Facts.{OnIn, OnShelf, shelf, stage, state}
-use Rattle.agreement.proofs.Keeps.{Keeps, Source, proposed-leaves, shelve-cases}
+use Rattle.agreement.proofs.Keeps.{Source, proposed-leaves, shelve-cases}
 use Rattle.agreement.proofs.Notes.{NoteInv, blockOf, lift-note, note-base, note-kept}
 use Rattle.agreement.proofs.Primed.{leave-above}
 use Rattle.agreement.proofs.Shelved.{turns-below, turns-there}
 use Rattle.agreement.proofs.Shelves.{lawful-high}
-use Rattle.agreement.proofs.Verdicts.{NewThere, last-on-shelf, new-there, rank-found, shelf-keeps}
+use Rattle.agreement.proofs.Verdicts.{last-on-shelf, rank-found, shelf-keeps}
 
 -- what is added to a list tells itself
 last-same : {X : Type 0} (xs : List X) (x y : X) → xs ++ (x ∷ []) ≡ xs ++ (y ∷ []) → x ≡ y

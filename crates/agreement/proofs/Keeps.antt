@@ -1,41 +1,35 @@
 -- A call changes a seat by a few small changes, one after the other. What each of them keeps, every call keeps.
-use Prim.Native.Nat.{ℕ, zero, suc, _+_, _-_, _*_, _≤_, _<_, min}
+use Prim.Native.Nat.{ℕ, _+_, min}
 use mathlib.Core.Path.{_≡_, refl, sym, ap, subst, _∙_}
 use mathlib.Core.Bool.{Bool, true, false, cond, not, _&&_, _||_}
 use mathlib.Core.List.{List, [], _∷_, _++_}
 use mathlib.Core.Logic.{_⊎_, inl, inr}
-use native.Mathlib.Omega.{arith}
-use lib.Dec.{eqb, leb, ltb}
+use lib.Dec.{eqb, ltb}
 use Rattle.std.proofs.shelf.Tests.{and-parts, and-from, eqb-true, or-right, cond-both}
-use Rattle.std.specs.Options.{isSome}
 use Rattle.std.specs.declared.option.Option.{Option}
 use Rattle.std.specs.declared.option.Option.the-variants.{Some, None}
-use Rattle.std.specs.declared.result.Result.{Result}
-use Rattle.std.specs.declared.result.Result.the-variants.{Ok, Err}
+use Rattle.std.specs.declared.result.Result.the-variants.{Ok}
 use Rattle.content.specs.Kinds.{Kind}
-use Rattle.content.specs.declared.refusal.Refusal.{Refusal}
 use Rattle.wire.specs.Layout.{sameBlock}
 use Rattle.wire.specs.declared.block.Block.{Block}
 use Rattle.wire.specs.declared.message.Certificate.{Certificate}
 use Rattle.wire.specs.declared.message.Parts.{Parts}
 use Rattle.wire.specs.declared.message.Parts.the-variants.{Proposal, Vote, Blame, Certified, Notice}
 use Rattle.wire.specs.declared.rows.SealRow.{SealRow}
-use Rattle.shelf.specs.Blocks.{find, topTurn}
+use Rattle.shelf.specs.Blocks.{topTurn}
 use Rattle.shelf.proofs.Ancestry.{find-rank}
-use Rattle.seat.specs.HandIn.{acceptable, acceptedAt, addSeal, adds, atSlot, certificateOf, clashes, countable, counted, handParts, hasSeal, idle, isNote, lastView, leaves, ownBlame, proposed, quorate, slotOpen, taken}
-use Rattle.seat.specs.Offer.{lastHeight, lastTurn, nextHeight, offers}
+use Rattle.seat.specs.HandIn.{acceptable, acceptedAt, addSeal, adds, atSlot, certificateOf, countable, handParts, idle, isNote, lastView, leaves, ownBlame, proposed, quorate, slotOpen, taken}
+use Rattle.seat.specs.Offer.{lastHeight, lastTurn, nextHeight}
 use Rattle.seat.specs.Parts.{isOn, leave, withBlamed, withBlames, withNote, turnRises, withBest, withCommitted, withNow, withOffered, withSlip, withSpoiled, withVotes}
-use Rattle.seat.specs.Sends.{Outcome, Sending, relay, write}
+use Rattle.seat.specs.Sends.{Outcome, relay, write}
 use Rattle.seat.specs.TakeIn.{better, commits, heightOf, here, judgeIn, shelve}
-use Rattle.seat.specs.Tick.{blames, enter, entered, tickStep, turnAfter, voteDue, votedFor}
-use Rattle.seat.specs.declared.answer.Word.{Word}
+use Rattle.seat.specs.Tick.{blames, enter, tickStep, turnAfter, votedFor}
 use Rattle.seat.specs.declared.answer.Word.the-variants.{Clash}
 use Rattle.seat.specs.declared.state.Note.{Note}
 use Rattle.seat.specs.declared.state.Phase.{Phase}
 use Rattle.seat.specs.declared.state.Phase.the-variants.{On, Leaving}
 use Rattle.seat.specs.declared.state.State.{State}
 use Rattle.seat.specs.declared.state.Terms.{Terms}
-use Rattle.seat.specs.declared.taking.Verdict.{Verdict}
 use Rattle.seat.specs.declared.taking.Verdict.the-variants.{Known, New}
 use Rattle.agreement.proofs.Cases.{NoteFor, blame-cases, notice-cases, proposal-cases, proposed-cases, taken-cases, tick-cases, vote-cases}
 use Rattle.agreement.proofs.Facts.{OnShelf}

@@ -1,28 +1,24 @@
 -- A seat's note: it is lawful, stands at the seat's own slot, and its leader, if sound, proposed it.
-use Prim.Native.Nat.{ℕ, zero, suc, _+_, _-_, _*_, _≤_, _<_, min}
+use Prim.Native.Nat.{ℕ, _+_, _≤_, _<_, min}
 use mathlib.Core.Path.{_≡_, refl, sym, ap, subst, _∙_}
-use mathlib.Core.Bool.{Bool, true, false, cond, not, _&&_, _||_}
-use mathlib.Core.List.{List, [], _∷_, _++_}
+use mathlib.Core.Bool.{Bool, true, false, cond, not}
+use mathlib.Core.List.{List, [], _∷_}
 use mathlib.Core.Logic.{_⊎_, inl, inr}
 use native.Mathlib.Omega.{arith}
-use lib.Dec.{eqb, ltb}
-use Rattle.std.proofs.shelf.Tests.{and-parts, cases-bool, eqb-true, eqb-false, ltb-true, or-cases}
+use lib.Dec.{eqb}
+use Rattle.std.proofs.shelf.Tests.{and-parts, cases-bool, eqb-true, eqb-false}
 use Rattle.std.specs.declared.option.Option.{Option}
 use Rattle.std.specs.declared.option.Option.the-variants.{Some, None}
-use Rattle.std.specs.declared.result.Result.{Result}
-use Rattle.std.specs.declared.result.Result.the-variants.{Ok, Err}
 use Rattle.content.specs.Kinds.{Kind}
-use Rattle.wire.specs.Asked.{Question, asked, judge, parentAsked}
+use Rattle.wire.specs.Asked.{Question, parentAsked}
 use Rattle.wire.specs.Lawful.{LawfulBlock}
-use Rattle.wire.specs.Layout.{proposalStatement, sameBlock}
+use Rattle.wire.specs.Layout.{proposalStatement}
 use Rattle.wire.specs.declared.block.Block.{Block}
 use Rattle.wire.specs.declared.message.Certificate.{Certificate}
-use Rattle.wire.specs.declared.message.Parts.{Parts}
-use Rattle.wire.specs.declared.message.Parts.the-variants.{Proposal, Vote, Blame, Certified, Notice}
+use Rattle.wire.specs.declared.message.Parts.the-variants.{Proposal, Notice}
 use Rattle.shelf.specs.Blocks.{topTurn}
 use Rattle.seat.specs.HandIn.{atSlot, lastView, slotOpen}
 use Rattle.seat.specs.Parts.{isOn, newState}
-use Rattle.seat.specs.TakeIn.{shelve}
 use Rattle.seat.specs.Tick.{roundAt, turnAfter}
 use Rattle.seat.specs.declared.state.Note.{Note}
 use Rattle.seat.specs.declared.state.Phase.{Phase}
@@ -34,7 +30,7 @@ use Rattle.agreement.specs.Setting.{Lawful, Setting, Sound}
 use Rattle.agreement.proofs.Along.{Handed, Kept, along}
 use Rattle.agreement.proofs.Basics.{none-some, some-same}
 use Rattle.agreement.proofs.Facts.{shelf, state}
-use Rattle.agreement.proofs.Keeps.{Keeps, shelve-cases}
+use Rattle.agreement.proofs.Keeps.{shelve-cases}
 use Rattle.agreement.proofs.Quorum.{judged-first}
 
 abbrev pub blockOf : {R : Type 0} → Option (Note R) → Option (Block R)

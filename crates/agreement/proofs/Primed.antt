@@ -1,7 +1,7 @@
 -- A primed seat stays primed, and votes at that rank for no other block.
-use Prim.Native.Nat.{ℕ, zero, suc, _+_, _-_, _*_, _≤_, _<_, min}
+use Prim.Native.Nat.{ℕ, _+_, _*_, _<_, min}
 use mathlib.Core.Path.{_≡_, refl, sym, ap, subst, _∙_}
-use mathlib.Core.Bool.{Bool, true, false, cond, not, _&&_, _||_}
+use mathlib.Core.Bool.{Bool, true, false, cond, _&&_, _||_}
 use mathlib.Core.List.{List, [], _∷_, _++_}
 use mathlib.Core.Logic.{_⊎_, inl, inr}
 use native.Mathlib.Omega.{arith}
@@ -9,33 +9,27 @@ use lib.Dec.{eqb, ltb}
 use Rattle.std.proofs.shelf.Tests.{and-parts, cases-bool, eqb-true, eqb-false, ltb-true, or-cases}
 use Rattle.std.specs.declared.option.Option.{Option}
 use Rattle.std.specs.declared.option.Option.the-variants.{Some, None}
-use Rattle.std.specs.declared.result.Result.the-variants.{Ok, Err}
 use Rattle.content.specs.Kinds.{Kind}
 use Rattle.wire.specs.Lawful.{LawfulBlock}
 use Rattle.wire.specs.declared.block.Block.{Block}
-use Rattle.wire.specs.declared.block.Rank.{Rank}
 use Rattle.wire.specs.declared.message.Certificate.{Certificate}
-use Rattle.wire.specs.declared.message.Parts.the-variants.{Vote}
 use Rattle.shelf.specs.Blocks.{topTurn}
 use Rattle.seat.specs.HandIn.{acceptedAt, lastView}
-use Rattle.seat.specs.Parts.{isOn, leave, turnRises, withBest, withCommitted, withNote, withNow, withSpoiled}
-use Rattle.seat.specs.Sends.{Outcome, Sending, write, zeroSeal}
-use Rattle.seat.specs.TakeIn.{better, commits, here, shelve}
-use Rattle.seat.specs.Tick.{enter, roundAt, turnAfter, voteDue, votedFor}
+use Rattle.seat.specs.Parts.{isOn, leave, turnRises, withBest, withNote, withSpoiled}
+use Rattle.seat.specs.TakeIn.{better, shelve}
+use Rattle.seat.specs.Tick.{enter, turnAfter, votedFor}
 use Rattle.seat.specs.declared.state.Note.{Note}
 use Rattle.seat.specs.declared.state.Phase.{Phase}
 use Rattle.seat.specs.declared.state.Phase.the-variants.{On, Leaving}
-use Rattle.seat.specs.declared.state.Round.{Round}
 use Rattle.seat.specs.declared.state.State.{State}
-use Rattle.agreement.specs.History.{Desk, Event, History, desk, result}
+use Rattle.agreement.specs.History.{Desk, Event, History}
 use Rattle.agreement.specs.Run.{Moment, Run}
 use Rattle.agreement.specs.Setting.{Lawful, Setting, Sound}
-use Rattle.agreement.proofs.Along.{Handed, Kept, desk-other, keep-call}
-use Rattle.agreement.proofs.Basics.{none-some, some-same, true-false}
-use Rattle.agreement.proofs.Facts.{Earlier, NoteIs, Primed, VotesFor, shelf, stage, state}
-use Rattle.agreement.proofs.Keeps.{Keeps, freshNote, shelve-cases}
-use Rattle.agreement.proofs.Notes.{NoteInv, blockOf, note-fine, note-kept}
-use Rattle.agreement.proofs.Sent.{BlameOnly, OfferMade, Passing, SentSo, VoteCast, sent-so}
+use Rattle.agreement.proofs.Along.{Kept, desk-other, keep-call}
+use Rattle.agreement.proofs.Basics.{true-false}
+use Rattle.agreement.proofs.Facts.{Earlier, NoteIs, Primed, stage, state}
+use Rattle.agreement.proofs.Keeps.{freshNote, shelve-cases}
+use Rattle.agreement.proofs.Notes.{NoteInv, note-fine, note-kept}
 
 note-is : {R : Type 0} (b : Block R) (old : Option (Note R)) (note : Note R) → old ≡ Some note → NoteIs b old → note .block ≡ b
 note-is b old note e q = subst (λ x. NoteIs b x) e q

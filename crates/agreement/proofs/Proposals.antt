@@ -1,12 +1,12 @@
 -- A proposal with good seals primes the seat that it is handed to.
-use Prim.Native.Nat.{ℕ, zero, suc, _+_, _-_, _*_, _≤_, _<_, min}
+use Prim.Native.Nat.{ℕ, _+_, _*_, _≤_, _<_}
 use mathlib.Core.Path.{_≡_, refl, sym, ap, subst, _∙_}
-use mathlib.Core.Bool.{Bool, true, false, cond, not, _&&_, _||_}
+use mathlib.Core.Bool.{Bool, true, false, cond, not, _&&_}
 use mathlib.Core.List.{List, [], _∷_, _++_}
 use mathlib.Core.Logic.{_⊎_, inl, inr}
 use native.Mathlib.Omega.{arith}
-use lib.Dec.{eqb, leb, ltb}
-use Rattle.std.proofs.shelf.Tests.{and-cases, and-from, and-parts, cases-bool, cases-lt, cond-both, eqb-true, eqb-false, eq-eqb}
+use lib.Dec.{eqb}
+use Rattle.std.proofs.shelf.Tests.{and-cases, and-from, and-parts, cases-lt, cond-both, eqb-true, eq-eqb}
 use Rattle.std.specs.Options.{isSome}
 use Rattle.std.specs.declared.option.Option.{Option}
 use Rattle.std.specs.declared.option.Option.the-variants.{Some, None}
@@ -20,13 +20,12 @@ use Rattle.wire.specs.Layout.{lawfulNumbers, sameBlock}
 use Rattle.wire.specs.declared.block.Block.{Block}
 use Rattle.wire.specs.declared.block.Rank.{Rank}
 use Rattle.wire.specs.declared.message.Certificate.{Certificate}
-use Rattle.wire.specs.declared.message.Parts.{Parts}
 use Rattle.wire.specs.declared.message.Parts.the-variants.{Proposal, Certified}
 use Rattle.wire.proofs.OneForm.{lawful-from-read}
-use Rattle.seat.specs.HandIn.{acceptable, acceptedAt, adds, atSlot, carried, clashes, idle, ownBlame, proposal, proposed, slotOpen, takeIn, taken}
-use Rattle.seat.specs.Parts.{isOn, withBlamed, withNote, withSlip, withSpoiled}
-use Rattle.seat.specs.Sends.{Outcome, Sending, relay, write}
-use Rattle.seat.specs.TakeIn.{judgeIn, shelve}
+use Rattle.seat.specs.HandIn.{acceptable, acceptedAt, adds, atSlot, carried, clashes, idle, ownBlame, proposal, proposed, slotOpen, taken}
+use Rattle.seat.specs.Parts.{isOn, withBlamed, withNote, withSpoiled}
+use Rattle.seat.specs.Sends.{Outcome, relay, write}
+use Rattle.seat.specs.TakeIn.{judgeIn}
 use Rattle.seat.specs.declared.answer.Word.{Word}
 use Rattle.seat.specs.declared.answer.Word.the-variants.{Accepted, Clash, Noted}
 use Rattle.seat.specs.declared.state.Note.{Note}
@@ -36,18 +35,18 @@ use Rattle.seat.specs.declared.state.State.{State}
 use Rattle.seat.specs.declared.state.Terms.{Terms}
 use Rattle.seat.specs.declared.taking.Verdict.{Verdict}
 use Rattle.seat.specs.declared.taking.Verdict.the-variants.{Known, New}
-use Rattle.agreement.specs.History.{Desk, Event, History, Refused, desk, inboxOf, result}
+use Rattle.agreement.specs.History.{Desk, Event, History, Refused, inboxOf, result}
 use Rattle.agreement.specs.Run.{Run}
-use Rattle.agreement.specs.Setting.{Lawful, Setting, Sound}
+use Rattle.agreement.specs.Setting.{Lawful, Setting}
 use Rattle.agreement.proofs.Acceptances.{parent-in-on}
 use Rattle.agreement.proofs.Along.{desk-done}
-use Rattle.agreement.proofs.Basics.{some-same, true-false}
+use Rattle.agreement.proofs.Basics.{true-false}
 use Rattle.agreement.proofs.Carried.{good-step, judge-denies}
 use Rattle.agreement.proofs.Cases.{NoteFor, proposed-cases}
-use Rattle.agreement.proofs.Facts.{GoodMessage, NoteIs, OnIn, OnShelf, ParentOn, Primed, shelf, stage, state}
+use Rattle.agreement.proofs.Facts.{GoodMessage, NoteIs, OnIn, OnShelf, Primed, shelf, stage, state}
 use Rattle.agreement.proofs.Invariant.{ordered}
 use Rattle.agreement.proofs.Keeps.{ParentIn, parent-known, parent-new, proposed-leaves, shelve-cases}
-use Rattle.agreement.proofs.Notes.{NoteInv, blockOf, note-fine}
+use Rattle.agreement.proofs.Notes.{blockOf, note-fine}
 use Rattle.agreement.proofs.Shelved.{turns-below}
 use Rattle.agreement.proofs.Statements.{same-lawful}
 

@@ -1,20 +1,17 @@
 -- A quorum of seats has a sound one.
-use Prim.Native.Nat.{ℕ, zero, suc, _+_, _-_, _*_, _/_, _%_, _^_, _≤_, _<_}
-use mathlib.Core.Path.{_≡_, refl, sym, ap, subst, _∙_}
-use mathlib.Core.Bool.{Bool, true, false, cond, _&&_}
-use mathlib.Core.List.{List, [], _∷_, _++_}
-use mathlib.Core.Logic.{_⊎_, inl, inr}
+use Prim.Native.Nat.{ℕ, zero, suc, _+_, _≤_, _<_}
+use mathlib.Core.Path.{_≡_, refl}
+use mathlib.Core.Bool.{Bool, true, false, cond}
+use mathlib.Core.List.{List, [], _∷_}
+use mathlib.Core.Logic.{inl, inr}
 use native.Mathlib.Omega.{arith}
-use lib.Dec.{eqb, ltb}
-use lib.ListN.{length, getD, take, drop}
-use Rattle.std.proofs.shelf.Tests.{cases-bool, and-parts, eqb-true, ltb-true}
-use Rattle.std.specs.declared.option.Option.{Option}
+use lib.ListN.{getD, drop}
 use Rattle.std.specs.declared.option.Option.the-variants.{Some, None}
 use Rattle.std.specs.declared.result.Result.{Result}
 use Rattle.std.specs.declared.result.Result.the-variants.{Ok, Err}
 use Rattle.content.specs.declared.refusal.Refusal.{Refusal}
 use Rattle.wire.specs.Asked.{Question, judge, rowAsked}
-use Rattle.wire.specs.Masks.{Kept, bit, countKept, faults, lawfulMask, ones, quorum}
+use Rattle.wire.specs.Masks.{Kept, bit, countKept, ones, quorum}
 use Rattle.agreement.specs.Run.{Among, Each}
 use Rattle.agreement.specs.Setting.{unsound}
 

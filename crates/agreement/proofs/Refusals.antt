@@ -1,13 +1,13 @@
 -- Why a certificate is refused as an orphan, a rival or a fork.
-use Prim.Native.Nat.{ℕ, zero, suc, _+_, _-_, _*_, _≤_, _<_}
+use Prim.Native.Nat.{ℕ, _+_, _≤_}
 use mathlib.Core.Path.{_≡_, refl, sym, ap, subst, _∙_}
 use mathlib.Core.Bool.{Bool, true, false, cond, not, _&&_, _||_}
-use mathlib.Core.List.{List, [], _∷_, _++_}
+use mathlib.Core.List.{List, _∷_}
 use mathlib.Core.Logic.{_⊎_, inl, inr}
 use native.Mathlib.Omega.{arith}
 use lib.Dec.{eqb, leb, ltb}
 use lib.ListN.{length}
-use Rattle.std.proofs.shelf.Tests.{and-parts, cases-bool, cond-true, cond-false, eqb-true, eqb-false, eq-eqb}
+use Rattle.std.proofs.shelf.Tests.{and-parts, cases-bool, cond-true, cond-false, eqb-true, eq-eqb}
 use Rattle.std.specs.Options.{okOr}
 use Rattle.std.specs.declared.option.Option.{Option}
 use Rattle.std.specs.declared.option.Option.the-variants.{Some, None}
@@ -16,42 +16,38 @@ use Rattle.std.specs.declared.result.Result.the-variants.{Ok, Err}
 use Rattle.content.specs.Kinds.{Kind, readContent}
 use Rattle.content.specs.Refusals.{numberOf}
 use Rattle.content.specs.declared.refusal.Refusal.{Refusal}
-use Rattle.content.specs.declared.refusal.Refusal.the-variants.{BrokenShelf, Fork, Full, LastTick, LastView, NoContent, NoLawfulParent, NoPlaceLeft, NotLeader, OfferLeaving, OfferSpoiled, OfferTooSoon, OfferedAlready, Orphan, Rival, Short, SlipOut, SmallOutbox, Trailing}
+use Rattle.content.specs.declared.refusal.Refusal.the-variants.{Fork, LastTick, LastView, NoContent, NoLawfulParent, NoPlaceLeft, NotLeader, OfferLeaving, OfferSpoiled, OfferTooSoon, OfferedAlready, Orphan, Rival, Short, SlipOut, SmallOutbox, Trailing}
 use Rattle.wire.specs.Asked.{asked, judge}
-use Rattle.wire.specs.Lawful.{LawfulBlock, LawfulParts}
 use Rattle.wire.specs.Layout.{sameBlock}
 use Rattle.wire.specs.Ranks.{below, parentOf}
 use Rattle.wire.specs.Reading.{next, readParts}
 use Rattle.wire.specs.declared.block.Block.{Block}
-use Rattle.wire.specs.declared.block.Rank.{Rank}
 use Rattle.wire.specs.declared.message.Certificate.{Certificate}
 use Rattle.wire.specs.declared.message.Parts.{Parts}
 use Rattle.wire.specs.declared.message.Parts.the-variants.{Proposal, Vote, Blame, Certified, Notice}
 use Rattle.wire.proofs.OneForm.{lawful-from-read}
 use Rattle.shelf.proofs.Ancestry.{find-rank}
-use Rattle.shelf.specs.Blocks.{find, readBelow}
-use Rattle.seat.specs.Calls.{guarded, handIn, lastTickOf, leastOutbox, opened}
+use Rattle.shelf.specs.Blocks.{readBelow}
+use Rattle.seat.specs.Calls.{guarded, lastTickOf, leastOutbox, opened}
 use Rattle.seat.specs.HandIn.{addSeal, carried, certificateOf, completed, countable, counted, handParts, hasSeal, isNote, lastView, proposed, quorate, taken, takeIn}
 use Rattle.seat.specs.Offer.{canCarry, lastHeight, lastTurn, nextHeight, offers, tooSoon}
 use Rattle.seat.specs.Parts.{isOn, withVotes}
-use Rattle.seat.specs.Sends.{Outcome, Sending, relay, write}
-use Rattle.seat.specs.TakeIn.{commits, here, judgeIn, oneUp, parentThere}
-use Rattle.seat.specs.declared.state.Phase.{Phase}
+use Rattle.seat.specs.Sends.{Outcome, relay, write}
+use Rattle.seat.specs.TakeIn.{here, judgeIn, oneUp, parentThere}
 use Rattle.seat.specs.declared.state.State.{State}
 use Rattle.seat.specs.declared.state.Terms.{Terms}
-use Rattle.seat.specs.declared.taking.Verdict.{Verdict}
-use Rattle.agreement.specs.History.{Call, Desk, Event, History, Refused, desk, hand, inboxOf, offer, outcome, result, sent, tick}
-use Rattle.agreement.specs.Run.{Moment, Run}
+use Rattle.agreement.specs.History.{Call, Desk, Event, History, Refused, desk, hand, inboxOf, offer, outcome, sent, tick}
+use Rattle.agreement.specs.Run.{Run}
 use Rattle.agreement.specs.Setting.{Lawful, Setting, Sound}
 use Rattle.agreement.proofs.Acceptances.{phase-on}
 use Rattle.agreement.proofs.Along.{Ends, Handed}
 use Rattle.agreement.proofs.Ballots.{VoteInv, source-voted, vote-kept, votes-fine}
-use Rattle.agreement.proofs.Basics.{err-ok, err-same, none-some, ok-same, some-same, true-false}
+use Rattle.agreement.proofs.Basics.{err-ok, err-same, ok-same, true-false}
 use Rattle.agreement.proofs.Carried.{Denies, denies-either, denies-err, denies-ok}
 use Rattle.agreement.proofs.Cases.{next-ok}
 use Rattle.agreement.proofs.Commits.{committed-below}
 use Rattle.agreement.proofs.Facts.{Candidate, OnIn, OnShelf, ParentOn, shelf, state}
-use Rattle.agreement.proofs.Keeps.{Keeps, Source}
+use Rattle.agreement.proofs.Keeps.{Source}
 use Rattle.agreement.proofs.OneStep.{parent-from-test}
 use Rattle.agreement.proofs.Shelved.{one-a-rank}
 use Rattle.agreement.proofs.Statements.{same-self}

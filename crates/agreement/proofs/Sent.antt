@@ -1,43 +1,36 @@
 -- What a call sends as the seat's own: a vote only in a tick, a proposal only in an offer.
-use Prim.Native.Nat.{ℕ, zero, suc, _+_, _-_, _*_, _≤_, _<_, min}
+use Prim.Native.Nat.{ℕ, _+_, min}
 use mathlib.Core.Path.{_≡_, refl, sym, ap, subst, _∙_}
-use mathlib.Core.Bool.{Bool, true, false, cond, not, _&&_, _||_}
-use mathlib.Core.List.{List, [], _∷_, _++_}
+use mathlib.Core.Bool.{true, false, not, _&&_, _||_}
+use mathlib.Core.List.{List}
 use mathlib.Core.Logic.{_⊎_, inl, inr}
-use native.Mathlib.Omega.{arith}
-use lib.Dec.{eqb, ltb}
+use lib.Dec.{ltb}
 use Rattle.std.proofs.shelf.Tests.{cond-both}
 use Rattle.std.specs.declared.option.Option.{Option}
 use Rattle.std.specs.declared.option.Option.the-variants.{Some, None}
-use Rattle.std.specs.declared.result.Result.{Result}
-use Rattle.std.specs.declared.result.Result.the-variants.{Ok, Err}
+use Rattle.std.specs.declared.result.Result.the-variants.{Ok}
 use Rattle.content.specs.Kinds.{Kind}
-use Rattle.content.specs.declared.refusal.Refusal.{Refusal}
-use Rattle.wire.specs.Layout.{blameStatement, proposalStatement, voteStatement}
 use Rattle.wire.specs.declared.block.Block.{Block}
-use Rattle.wire.specs.declared.message.Certificate.{Certificate}
 use Rattle.wire.specs.declared.message.Parts.{Parts}
 use Rattle.wire.specs.declared.message.Parts.the-variants.{Proposal, Vote, Blame, Certified, Notice}
-use Rattle.seat.specs.Calls.{sentStep}
-use Rattle.seat.specs.HandIn.{handParts, idle, lastView, ownBlame, proposed, taken}
-use Rattle.seat.specs.Offer.{bestBody, lastHeight, lastTurn, nextHeight, offeredBlock, offers}
+use Rattle.seat.specs.HandIn.{handParts, idle, lastView, proposed, taken}
+use Rattle.seat.specs.Offer.{lastHeight, lastTurn, nextHeight, offers}
 use Rattle.seat.specs.Parts.{isOn, withNote, withNow}
-use Rattle.seat.specs.Sends.{Outcome, Sending, Sends, relay, write, zeroSeal}
-use Rattle.seat.specs.Tick.{blames, enter, entered, tickStep, turnAfter, voteDue, votedFor}
+use Rattle.seat.specs.Sends.{Outcome, Sending, relay, write, zeroSeal}
+use Rattle.seat.specs.Tick.{blames, enter, entered, turnAfter, voteDue, votedFor}
 use Rattle.shelf.specs.Blocks.{topTurn}
 use Rattle.seat.specs.declared.answer.Word.{Word}
 use Rattle.seat.specs.declared.answer.Word.the-variants.{Idle, Voted}
 use Rattle.seat.specs.declared.state.Note.{Note}
-use Rattle.seat.specs.declared.state.Phase.{Phase}
-use Rattle.seat.specs.declared.state.Phase.the-variants.{On, Leaving}
+use Rattle.seat.specs.declared.state.Phase.the-variants.{On}
 use Rattle.seat.specs.declared.state.State.{State}
 use Rattle.seat.specs.declared.state.Terms.{Terms}
 use Rattle.seat.specs.declared.taking.Verdict.the-variants.{New}
-use Rattle.agreement.specs.History.{Call, Desk, Did, Event, History, Own, desk, hand, offer, outcome, result, sent, tick}
+use Rattle.agreement.specs.History.{Call, Desk, Event, History, desk, hand, offer, outcome, result, sent, tick}
 use Rattle.agreement.specs.Run.{Moment}
-use Rattle.agreement.specs.Setting.{Lawful, Setting, Sound}
+use Rattle.agreement.specs.Setting.{Lawful, Setting}
 use Rattle.agreement.proofs.Along.{handed-good}
-use Rattle.agreement.proofs.Basics.{none-some, ok-same, some-same}
+use Rattle.agreement.proofs.Basics.{ok-same}
 use Rattle.agreement.proofs.Cases.{blame-cases, notice-cases, offered-so, proposal-cases, proposed-cases, taken-cases, tick-cases, tick-so, vote-cases}
 use Rattle.agreement.proofs.Facts.{shelf, state}
 

@@ -1,20 +1,15 @@
 -- A statement says what it says: its bytes tell its kind and its block.
-use Prim.Native.Nat.{ℕ, zero, suc, _+_, _-_, _*_, _/_, _%_, _^_, _≤_, _<_}
-use mathlib.Core.Path.{_≡_, refl, sym, ap, subst, _∙_}
-use mathlib.Core.Bool.{Bool, true, false, cond, _&&_}
-use mathlib.Core.List.{List, [], _∷_, _++_, append-nil}
+use Prim.Native.Nat.{ℕ, _/_, _%_}
+use mathlib.Core.Path.{_≡_, refl, sym, ap, _∙_}
+use mathlib.Core.Bool.{true}
+use mathlib.Core.List.{List, [], _++_}
 use native.Mathlib.Omega.{arith}
-use lib.Dec.{eqb, ltb}
+use lib.Dec.{eqb}
 use Rattle.std.proofs.shelf.Equals.{sameBytes-decides}
 use Rattle.std.proofs.shelf.Tests.{and-parts, and-from, eqb-true, eq-eqb}
-use Rattle.std.specs.shelf.Text.{sameBytes}
-use Rattle.std.specs.declared.option.Option.{Option}
-use Rattle.std.specs.declared.option.Option.the-variants.{Some, None}
-use Rattle.std.specs.declared.result.Result.{Result}
-use Rattle.std.specs.declared.result.Result.the-variants.{Ok, Err}
-use Rattle.content.specs.Kinds.{Kind, Lawful}
+use Rattle.std.specs.declared.result.Result.the-variants.{Ok}
+use Rattle.content.specs.Kinds.{Kind}
 use Rattle.content.specs.Numbers.{spell}
-use Rattle.content.specs.declared.refusal.Refusal.{Refusal}
 use Rattle.shelf.proofs.Ancestry.{same-ranks}
 use Rattle.wire.specs.Lawful.{LawfulBlock, TwoBytes}
 use Rattle.wire.specs.Layout.{blameStatement, blockBytes, proposalStatement, sameBlock, voteStatement}

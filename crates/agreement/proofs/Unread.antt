@@ -1,8 +1,8 @@
 -- A message that is not read, or whose seals are not good, is refused by a number below 9.
-use Prim.Native.Nat.{ℕ, zero, suc, _+_, _-_, _*_, _≤_, _<_}
-use mathlib.Core.Path.{_≡_, refl, sym, ap, subst, _∙_}
-use mathlib.Core.Bool.{Bool, true, false, cond}
-use mathlib.Core.List.{List, [], _∷_, _++_}
+use Prim.Native.Nat.{ℕ, zero, suc, _+_, _-_, _<_}
+use mathlib.Core.Path.{refl}
+use mathlib.Core.Bool.{Bool, cond}
+use mathlib.Core.List.{List, [], _∷_}
 use native.Mathlib.Omega.{arith}
 use lib.Dec.{eqb, ltb}
 use lib.ListN.{drop, length}
@@ -14,14 +14,11 @@ use Rattle.content.specs.Kinds.{Kind}
 use Rattle.content.specs.Refusals.{numberOf}
 use Rattle.content.specs.declared.refusal.Refusal.{Refusal}
 use Rattle.content.specs.declared.refusal.Refusal.the-variants.{BadLayout, BadSeal, NoContent, Short, Trailing, UnknownKind, WrongParent}
-use Rattle.wire.specs.Asked.{Question, asked, judge}
+use Rattle.wire.specs.Asked.{Question, judge}
 use Rattle.wire.specs.Layout.{lawfulNumbers}
 use Rattle.wire.specs.Masks.{lawfulMask, quorum}
-use Rattle.wire.specs.Reading.{Read, contentOf, ended, isParent, next, peel, peelBlock, peelBody, peelContent, peelMask, peelNumber, peelSeals, peelSeat, proposalOf, readBlame, readCertified, readKind, readNotice, readParts, readProposal, readVote, sealsFit}
-use Rattle.wire.specs.declared.block.Block.{Block}
-use Rattle.wire.specs.declared.message.Certificate.{Certificate}
-use Rattle.wire.specs.declared.message.Parts.{Parts}
-use Rattle.wire.specs.declared.message.Parts.the-variants.{Proposal, Vote, Blame, Certified, Notice}
+use Rattle.wire.specs.Reading.{contentOf, ended, isParent, next, peel, peelBlock, peelBody, peelContent, peelMask, peelNumber, peelSeals, peelSeat, readBlame, readCertified, readNotice, readParts, readProposal, readVote, sealsFit}
+use Rattle.wire.specs.declared.message.Parts.the-variants.{Proposal, Vote, Blame, Notice}
 use Rattle.agreement.proofs.Carried.{Denies, denies-either, denies-err, denies-ok}
 
 -- refusals of reading and of seals

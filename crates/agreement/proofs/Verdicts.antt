@@ -1,13 +1,13 @@
 -- What a verdict on a certificate says of the shelf.
-use Prim.Native.Nat.{ℕ, zero, suc, _+_, _-_, _≤_, _<_}
+use Prim.Native.Nat.{ℕ, zero, suc, _+_, _-_}
 use mathlib.Core.Path.{_≡_, refl, sym, ap, subst, _∙_}
-use mathlib.Core.Bool.{Bool, true, false, cond, not, _&&_}
+use mathlib.Core.Bool.{Bool, true, false, cond, not}
 use mathlib.Core.List.{List, [], _∷_, _++_}
 use mathlib.Core.Logic.{_⊎_, inl, inr}
 use native.Mathlib.Omega.{arith}
 use lib.Dec.{eqb, ltb}
 use lib.ListN.{length}
-use Rattle.std.proofs.shelf.Tests.{cases-bool, eqb-true, eqb-false, eq-eqb, ne-eqb, and-from}
+use Rattle.std.proofs.shelf.Tests.{cases-bool, eq-eqb, and-from}
 use Rattle.std.specs.declared.option.Option.{Option}
 use Rattle.std.specs.declared.option.Option.the-variants.{Some, None}
 use Rattle.std.specs.declared.result.Result.{Result}
@@ -20,13 +20,11 @@ use Rattle.wire.specs.Ranks.{parentOf, sameRank}
 use Rattle.wire.specs.declared.block.Block.{Block}
 use Rattle.wire.specs.declared.block.Rank.{Rank}
 use Rattle.shelf.specs.Blocks.{answered, belowBlock, climb, find, oneLower, readBelow}
-use Rattle.shelf.proofs.Ancestry.{find-rank}
 use Rattle.shelf.proofs.Scans.{find-here, find-past, find-none}
-use Rattle.seat.specs.TakeIn.{commits, extends, isLast, judgeFound, judgeIn, judgeNew, oneUp, parentThere}
+use Rattle.seat.specs.TakeIn.{commits, extends, isLast, judgeFound, judgeIn, parentThere}
 use Rattle.seat.specs.declared.state.State.{State}
 use Rattle.seat.specs.declared.taking.Verdict.{Verdict}
 use Rattle.seat.specs.declared.taking.Verdict.the-variants.{Known, New}
-use Rattle.agreement.specs.Run.{Among}
 use Rattle.agreement.proofs.Basics.{err-ok, err-same, none-some, ok-same, some-same, true-false}
 use Rattle.agreement.proofs.Cases.{when-ok}
 use Rattle.agreement.proofs.Facts.{OnShelf}

@@ -1,49 +1,35 @@
 -- Seals of sound seats stand on votes that were cast: a vote kept for the note, a certificate, a block on the shelf.
-use Prim.Native.Nat.{ℕ, zero, suc, _+_, _-_, _*_, _/_, _≤_, _<_, min}
-use mathlib.Core.Path.{_≡_, refl, sym, ap, subst, _∙_}
-use mathlib.Core.Bool.{Bool, true, false, cond, not, _&&_, _||_}
-use mathlib.Core.List.{List, [], _∷_, _++_}
+use Prim.Native.Nat.{ℕ, _≤_, _<_}
+use mathlib.Core.Path.{_≡_, ap, subst, _∙_}
+use mathlib.Core.Bool.{true}
+use mathlib.Core.List.{List, [], _∷_}
 use mathlib.Core.Logic.{_⊎_, inl, inr}
 use native.Mathlib.Omega.{arith}
-use lib.Dec.{eqb, ltb}
-use lib.ListN.{getD, length, replicate, set}
-use lib.Seq.{getD-set-other, getD-set-same}
-use Rattle.std.proofs.shelf.Tests.{and-parts, cases-bool, cases-eq, eqb-true, eqb-false}
+use lib.Dec.{ltb}
+use Rattle.std.proofs.shelf.Tests.{and-parts, eqb-true}
 use Rattle.std.specs.declared.option.Option.{Option}
 use Rattle.std.specs.declared.option.Option.the-variants.{Some, None}
-use Rattle.std.specs.declared.result.Result.{Result}
-use Rattle.std.specs.declared.result.Result.the-variants.{Ok, Err}
+use Rattle.std.specs.declared.result.Result.the-variants.{Ok}
 use Rattle.content.specs.Kinds.{Kind}
-use Rattle.wire.specs.Asked.{Question, asked, bodyAsked, judge, rowAsked}
+use Rattle.wire.specs.Asked.{Question, bodyAsked, judge, rowAsked}
 use Rattle.wire.specs.Lawful.{LawfulBlock, LawfulBody}
-use Rattle.wire.specs.Layout.{proposalStatement, sameBlock, voteStatement}
-use Rattle.wire.specs.Masks.{Kept as KeptRow, countKept, faults, lawfulMask, ones, quorum}
+use Rattle.wire.specs.Layout.{proposalStatement, voteStatement}
+use Rattle.wire.specs.Masks.{faults, lawfulMask, ones, quorum}
 use Rattle.wire.specs.declared.block.Block.{Block}
 use Rattle.wire.specs.declared.message.Certificate.{Certificate}
-use Rattle.wire.specs.declared.message.Parts.{Parts}
 use Rattle.wire.specs.declared.message.Parts.the-variants.{Proposal, Vote, Blame, Certified, Notice}
-use Rattle.wire.specs.declared.rows.SealRow.{SealRow}
-use Rattle.shelf.specs.Blocks.{topTurn}
-use Rattle.seat.specs.HandIn.{addSeal, countable, isNote, quorate, slotOpen}
-use Rattle.seat.specs.Offer.{bestBody, offeredBlock, offers}
-use Rattle.seat.specs.Parts.{isOn, newState, noSeals}
+use Rattle.seat.specs.Offer.{offeredBlock}
 use Rattle.seat.specs.Sends.{Outcome, Sending, relay, write, zeroSeal}
-use Rattle.seat.specs.Tick.{roundAt, turnAfter}
-use Rattle.seat.specs.declared.state.Note.{Note}
-use Rattle.seat.specs.declared.state.Phase.{Phase}
-use Rattle.seat.specs.declared.state.Phase.the-variants.{On, Leaving}
-use Rattle.seat.specs.declared.state.State.{State}
-use Rattle.agreement.specs.History.{Did, Event, History, Own, Said, result}
-use Rattle.agreement.specs.Run.{Among, Each, HonestSeal, Moment, Run}
+use Rattle.agreement.specs.History.{Event, History, Own, Said, result}
+use Rattle.agreement.specs.Run.{Each, HonestSeal, Moment, Run}
 use Rattle.agreement.specs.Setting.{Lawful, Setting, Sound, unsound}
-use Rattle.agreement.proofs.Along.{Ends, Handed, Kept, keep-call}
-use Rattle.agreement.proofs.Basics.{none-some, some-same, was-later, was-now}
-use Rattle.agreement.proofs.Facts.{OnShelf, Voted, VotesFor, Was, shelf, state}
-use Rattle.agreement.proofs.Keeps.{Keeps, shelve-cases}
-use Rattle.agreement.proofs.Notes.{NoteInv, blockOf, note-fine, note-kept}
-use Rattle.agreement.proofs.Quorum.{among-each, asked-sound, judged, judged-first, kept-sound, unsound-from, unsoundFrom}
-use Rattle.agreement.proofs.Sent.{BlameOnly, OfferMade, Passing, SentSo, VoteCast, sent-so}
-use Rattle.agreement.proofs.Statements.{blame-no-vote, proposal-no-vote, same-lawful, vote-tells}
+use Rattle.agreement.proofs.Along.{Handed}
+use Rattle.agreement.proofs.Basics.{was-later, was-now}
+use Rattle.agreement.proofs.Facts.{Voted, VotesFor, shelf, state}
+use Rattle.agreement.proofs.Notes.{blockOf, note-fine}
+use Rattle.agreement.proofs.Quorum.{among-each, asked-sound, judged, judged-first, unsound-from, unsoundFrom}
+use Rattle.agreement.proofs.Sent.{BlameOnly, OfferMade, Passing, VoteCast, sent-so}
+use Rattle.agreement.proofs.Statements.{blame-no-vote, proposal-no-vote, vote-tells}
 
 module _ {L : ℕ} {R : Type 0} (S : ℕ) (k : Kind L R) (w : Setting) where
   pub passing-owns : (st : List ℕ) (x : Option (Sending R)) → Passing x → Own S k w st x → ⊥
