@@ -32,12 +32,13 @@ use Rattle.agreement.specs.History.{Desk, Event, History, Is, clock, inboxOf, 
 use Rattle.agreement.specs.Run.{Moment, Run}
 use Rattle.agreement.specs.Setting.{Lawful, Setting, Sound}
 use Rattle.agreement.proofs.Along.{Ends, Handed, Kept, along, desk-done}
-use Rattle.agreement.proofs.Basics.{none-some, ok-same, some-same, true-false, was-later, was-now}
+use Rattle.agreement.proofs.Basics.{none-some, ok-same, some-same, true-false}
+use Rattle.agreement.proofs.Carried.{same-blocks}
 use Rattle.agreement.proofs.Facts.{Acceptance, Ballot, NoteIs, ParentOn, Primed, VotesFor, Was, shelf, stage, state}
 use Rattle.agreement.proofs.Keeps.{ParentIn, shelve-cases}
+use Rattle.agreement.proofs.Moments.{was-here, was-more}
 use Rattle.agreement.proofs.Notes.{NoteInv, Placed, blockOf, lift-note, note-base, note-kept}
 use Rattle.agreement.proofs.Sent.{OfferMade, Passing, VoteCast, sent-so}
-use Rattle.agreement.proofs.Statements.{same-lawful}
 
 pub phase-on : (f : Phase) → isOn f ≡ true → f ≡ On
 phase-on On e = refl
@@ -83,7 +84,7 @@ module _ {L : ℕ} {R : Type 0} (S : ℕ) (k : Kind L R) (w : Setting) where
       let done = after-call e p o (withNote (Some (acceptedAt (s .now) note)) s) ends st in
       let here : s .phase ≡ On = phase-on (s .phase) (and-parts (isOn (s .phase)) _ able .0) in
       let at : Placed On (s .view) (s .turn) (note .block) = subst (λ (f : Phase). Placed f (s .view) (s .turn) (note .block)) here (q .placed (note .block) (ap blockOf n)) in
-      let it : note .block ≡ b = same-lawful k (note .block) b (q .lawful (note .block) (ap blockOf n)) (got .1 .0) same in
+      let it : note .block ≡ b = same-blocks k (note .block) b (q .lawful (note .block) (ap blockOf n)) (got .1 .0) same in
       record {
         mine = refl;
         at-tick = ap (λ (x : State S R). x .now) (done .1);
@@ -114,7 +115,7 @@ module _ {L : ℕ} {R : Type 0} (S : ℕ) (k : Kind L R) (w : Setting) (law : La
           let tick : s .now ≡ a = some-same (ap (λ (x : Note R). x .accepted) it ∙ t) in
           let block : note .block ≡ note' .block = ap (λ (x : Note R). x .block) it in
           (phase-on (s .phase) (and-parts (isOn (s .phase)) _ able .0),
-            was-now (Acceptance S k w (e .who) a (note' .block)) e p
+            was-here (Acceptance S k w (e .who) a (note' .block)) e p
               (subst (λ (x : ℕ). Acceptance S k w (e .who) x (note' .block) e p) tick (subst (λ (x : Block R). Acceptance S k w (e .who) (s .now) x e p) block
                 (accepting S k w e p s bs note b seal parent got there n same able o ends st bl se (q .0)))),
             λ first. subst (λ (x : Block R). atLeast (parentOf x) (s .lock) ≡ true) block (above-lock S k w s (note .block) able first)));
@@ -155,7 +156,7 @@ module _ {L : ℕ} {R : Type 0} (S : ℕ) (k : Kind L R) (w : Setting) (law : La
       along S k w law (AcceptInv S k w)
       (λ i. (note-base S k w i, unaccepted S k w i [] On 0 None))
       (λ i e p s bs q. (lift-note S k w e p (s .phase) (s .view) (s .turn) (blockOf (s .round .note)) (q .0),
-        λ note a n t. let f = q .1 note a n t in (f .0, was-later (Acceptance S k w i a (note .block)) e p (f .1), f .2)))
+        λ note a n t. let f = q .1 note a n t in (f .0, was-more (Acceptance S k w i a (note .block)) e p (f .1), f .2)))
       accept-kept
 
   vote-same : (i : ℕ) (a b : Block R) (seal : List ℕ) → Some (write (Vote i a seal)) ≡ Some (write (Vote i b seal)) → a ≡ b

@@ -4,8 +4,6 @@ use mathlib.Core.Path.{_≡_, refl, sym, ap, subst, _∙_}
 use mathlib.Core.Bool.{Bool, true, false}
 use mathlib.Core.List.{List, [], _∷_}
 use mathlib.Core.Logic.{inl, inr}
-use lib.Dec.{eqb}
-use Rattle.std.proofs.shelf.Tests.{cases-bool, eqb-true, eq-eqb, cond-true, cond-false}
 use Rattle.std.specs.declared.result.Result.{Result}
 use Rattle.std.specs.declared.result.Result.the-variants.{Ok, Err}
 use Rattle.content.specs.Kinds.{Kind}
@@ -27,23 +25,11 @@ use Rattle.agreement.specs.Setting.{Lawful, Setting, Sound}
 use Rattle.agreement.proofs.Basics.{err-ok, ok-same}
 use Rattle.agreement.proofs.Cases.{handed, offered-so, tick-so}
 use Rattle.agreement.proofs.Facts.{GoodMessage, shelf, state}
+use Rattle.agreement.proofs.Invariant.{whose}
 use Rattle.agreement.proofs.Keeps.{Keeps, keep-hand, keep-tick}
+use Rattle.agreement.proofs.Steps.{desk-mine, desk-none, desk-other}
 
 module _ {L : ℕ} {R : Type 0} (S : ℕ) (k : Kind L R) (w : Setting) where
-  pub desk-none : (i : ℕ) → desk S k w i [] ≡ record { state = newState; blocks = [] }
-  unfolding desk
-  desk-none i = refl
-
-  -- a call moves its own seat
-  pub desk-own : (e : Event) (p : History) → desk S k w (e .who) (e ∷ p) ≡ after k w (e .who) (e .what) (desk S k w (e .who) p)
-  unfolding desk
-  desk-own e p = cond-true (eqb (e .who) (e .who)) _ _ (eq-eqb (e .who) (e .who) refl)
-
-  -- and no other
-  pub desk-other : (i : ℕ) (e : Event) (p : History) → eqb i (e .who) ≡ false → desk S k w i (e ∷ p) ≡ desk S k w i p
-  unfolding desk
-  desk-other i e p f = cond-false (eqb i (e .who)) _ _ f
-
   -- the seat after a call that was carried out, and after one that was refused
   pub desk-done : (e : Event) (p : History) (o : Outcome S R) → result S k w e p ≡ Ok o →
       (out : Bool) × (desk S k w (e .who) (e ∷ p) ≡ record { state = withSlip out (o .state); blocks = o .blocks })
@@ -55,16 +41,16 @@ module _ {L : ℕ} {R : Type 0} (S : ℕ) (k : Kind L R) (w : Setting) where
       by : (c : Call) → e .what ≡ c → (out : Bool) × (desk S k w (e .who) (e ∷ p) ≡ record { state = withSlip out (o .state); blocks = o .blocks })
       by (hand inbox room) q =
           let r' : outcome k w (e .who) (hand inbox room) d ≡ Ok o = ap (λ c. outcome k w (e .who) c d) (sym q) ∙ r in
-          (true, desk-own e p ∙ ap (λ c. after k w (e .who) c d) q ∙ ap (λ (x : Result (Outcome S R) Refusal). record { state = stateAfter (d .state) x; blocks = blocksAfter (d .blocks) x }) r')
+          (true, desk-mine S k w (e .who) e p refl ∙ ap (λ c. after k w (e .who) c d) q ∙ ap (λ (x : Result (Outcome S R) Refusal). record { state = stateAfter (d .state) x; blocks = blocksAfter (d .blocks) x }) r')
       by (tick room) q =
           let r' : outcome k w (e .who) (tick room) d ≡ Ok o = ap (λ c. outcome k w (e .who) c d) (sym q) ∙ r in
-          (true, desk-own e p ∙ ap (λ c. after k w (e .who) c d) q ∙ ap (λ (x : Result (Outcome S R) Refusal). record { state = stateAfter (d .state) x; blocks = blocksAfter (d .blocks) x }) r')
+          (true, desk-mine S k w (e .who) e p refl ∙ ap (λ c. after k w (e .who) c d) q ∙ ap (λ (x : Result (Outcome S R) Refusal). record { state = stateAfter (d .state) x; blocks = blocksAfter (d .blocks) x }) r')
       by (offer content room) q =
           let r' : outcome k w (e .who) (offer content room) d ≡ Ok o = ap (λ c. outcome k w (e .who) c d) (sym q) ∙ r in
-          (true, desk-own e p ∙ ap (λ c. after k w (e .who) c d) q ∙ ap (λ (x : Result (Outcome S R) Refusal). record { state = stateAfter (d .state) x; blocks = blocksAfter (d .blocks) x }) r')
+          (true, desk-mine S k w (e .who) e p refl ∙ ap (λ c. after k w (e .who) c d) q ∙ ap (λ (x : Result (Outcome S R) Refusal). record { state = stateAfter (d .state) x; blocks = blocksAfter (d .blocks) x }) r')
       by sent q =
           let r' : outcome k w (e .who) sent d ≡ Ok o = ap (λ c. outcome k w (e .who) c d) (sym q) ∙ r in
-          (false, desk-own e p ∙ ap (λ c. after k w (e .who) c d) q ∙ ap (λ (x : Outcome S R). record { state = withSlip false (x .state); blocks = x .blocks }) (ok-same r'))
+          (false, desk-mine S k w (e .who) e p refl ∙ ap (λ c. after k w (e .who) c d) q ∙ ap (λ (x : Outcome S R). record { state = withSlip false (x .state); blocks = x .blocks }) (ok-same r'))
 
   pub desk-refused : (e : Event) (p : History) (x : Refusal) → result S k w e p ≡ Err x → desk S k w (e .who) (e ∷ p) ≡ desk S k w (e .who) p
   desk-refused e p x r = by (e .what) refl
@@ -75,13 +61,13 @@ module _ {L : ℕ} {R : Type 0} (S : ℕ) (k : Kind L R) (w : Setting) where
       by : (c : Call) → e .what ≡ c → desk S k w (e .who) (e ∷ p) ≡ desk S k w (e .who) p
       by (hand inbox room) q =
           let r' : outcome k w (e .who) (hand inbox room) d ≡ Err x = ap (λ c. outcome k w (e .who) c d) (sym q) ∙ r in
-          desk-own e p ∙ ap (λ c. after k w (e .who) c d) q ∙ ap (λ (x : Result (Outcome S R) Refusal). record { state = stateAfter (d .state) x; blocks = blocksAfter (d .blocks) x }) r'
+          desk-mine S k w (e .who) e p refl ∙ ap (λ c. after k w (e .who) c d) q ∙ ap (λ (x : Result (Outcome S R) Refusal). record { state = stateAfter (d .state) x; blocks = blocksAfter (d .blocks) x }) r'
       by (tick room) q =
           let r' : outcome k w (e .who) (tick room) d ≡ Err x = ap (λ c. outcome k w (e .who) c d) (sym q) ∙ r in
-          desk-own e p ∙ ap (λ c. after k w (e .who) c d) q ∙ ap (λ (x : Result (Outcome S R) Refusal). record { state = stateAfter (d .state) x; blocks = blocksAfter (d .blocks) x }) r'
+          desk-mine S k w (e .who) e p refl ∙ ap (λ c. after k w (e .who) c d) q ∙ ap (λ (x : Result (Outcome S R) Refusal). record { state = stateAfter (d .state) x; blocks = blocksAfter (d .blocks) x }) r'
       by (offer content room) q =
           let r' : outcome k w (e .who) (offer content room) d ≡ Err x = ap (λ c. outcome k w (e .who) c d) (sym q) ∙ r in
-          desk-own e p ∙ ap (λ c. after k w (e .who) c d) q ∙ ap (λ (x : Result (Outcome S R) Refusal). record { state = stateAfter (d .state) x; blocks = blocksAfter (d .blocks) x }) r'
+          desk-mine S k w (e .who) e p refl ∙ ap (λ c. after k w (e .who) c d) q ∙ ap (λ (x : Result (Outcome S R) Refusal). record { state = stateAfter (d .state) x; blocks = blocksAfter (d .blocks) x }) r'
       by sent q = absurd (err-ok (sym r ∙ ap (λ c. outcome k w (e .who) c d) q))
 
   -- the call handed in this message: it was read, it keeps the layout, and its seals are good
@@ -151,13 +137,13 @@ module _ {L : ℕ} {R : Type 0} (S : ℕ) (k : Kind L R) (w : Setting) (law : La
     along i (e ∷ p) sound run =
         let q : Inv i p (state S k w i p) (shelf S k w i p) = along i p sound (run .1) in
         let l : Inv i (e ∷ p) (state S k w i p) (shelf S k w i p) = lift i e p (state S k w i p) (shelf S k w i p) q in
-        elim (cases-bool (eqb i (e .who))) [
-          | inl t ↦
-              let same : i ≡ e .who = eqb-true i (e .who) t in
+        elim (whose (e .who) i) [
+          | inl mine ↦
+              let same : i ≡ e .who = sym mine in
               subst (λ (j : ℕ). Inv j (e ∷ p) (state S k w j (e ∷ p)) (shelf S k w j (e ∷ p))) (sym same)
               (keep-call (Inv (e .who) (e ∷ p)) e p (run .0) (keep e p (run .0) (run .1))
                 (subst (λ (j : ℕ). Inv j (e ∷ p) (state S k w j p) (shelf S k w j p)) same l))
-          | inr f ↦ subst (λ (d : Desk S R). Inv i (e ∷ p) (d .state) (d .blocks)) (sym (desk-other S k w i e p f)) l
+          | inr other ↦ subst (λ (d : Desk S R). Inv i (e ∷ p) (d .state) (d .blocks)) (sym (desk-other S k w i e p other)) l
         ]
 
   -- the same for facts that are said of the moment before each call
@@ -169,12 +155,12 @@ module _ {L : ℕ} {R : Type 0} (S : ℕ) (k : Kind L R) (w : Setting) (law : La
     along-before i [] sound run = subst (λ (d : Desk S R). Inv i [] (d .state) (d .blocks)) (sym (desk-none S k w i)) (base i)
     along-before i (e ∷ p) sound run =
         let q : Inv i p (state S k w i p) (shelf S k w i p) = along-before i p sound (run .1) in
-        elim (cases-bool (eqb i (e .who))) [
-          | inl t ↦
-              let same : i ≡ e .who = eqb-true i (e .who) t in
+        elim (whose (e .who) i) [
+          | inl mine ↦
+              let same : i ≡ e .who = sym mine in
               subst (λ (j : ℕ). Inv j (e ∷ p) (state S k w j (e ∷ p)) (shelf S k w j (e ∷ p))) (sym same)
               (lift (e .who) e p (state S k w (e .who) (e ∷ p)) (shelf S k w (e .who) (e ∷ p))
                 (keep-call (Inv (e .who) p) e p (run .0) (keep e p (run .0) (run .1))
                   (subst (λ (j : ℕ). Inv j p (state S k w j p) (shelf S k w j p)) same q)))
-          | inr f ↦ subst (λ (d : Desk S R). Inv i (e ∷ p) (d .state) (d .blocks)) (sym (desk-other S k w i e p f)) (lift i e p (state S k w i p) (shelf S k w i p) q)
+          | inr other ↦ subst (λ (d : Desk S R). Inv i (e ∷ p) (d .state) (d .blocks)) (sym (desk-other S k w i e p other)) (lift i e p (state S k w i p) (shelf S k w i p) q)
         ]

@@ -32,13 +32,14 @@ use Rattle.agreement.specs.History.{Event, History, Said}
 use Rattle.agreement.specs.Run.{Moment, Run}
 use Rattle.agreement.specs.Setting.{Lawful, Setting, Sound}
 use Rattle.agreement.proofs.Along.{Ends, Handed, Kept, along-before}
-use Rattle.agreement.proofs.Basics.{none-some, some-same, true-false, was-later}
+use Rattle.agreement.proofs.Basics.{none-some, some-same, true-false}
+use Rattle.agreement.proofs.Carried.{same-blocks}
 use Rattle.agreement.proofs.Facts.{OnShelf, Voted, VotesFor, shelf, state}
 use Rattle.agreement.proofs.Keeps.{Source, shelve-cases}
+use Rattle.agreement.proofs.Moments.{was-more}
 use Rattle.agreement.proofs.Notes.{NoteInv, blockOf, lift-note, note-base, note-kept}
 use Rattle.agreement.proofs.Quorum.{judged-first, kept-sound, unsoundFrom}
-use Rattle.agreement.proofs.Statements.{same-lawful}
-use Rattle.agreement.proofs.Verdicts.{on-grown}
+use Rattle.agreement.proofs.Shelves.{on-pushed}
 use Rattle.agreement.proofs.Votes.{certified-voted, parent-voted, quorum-above, said-voted}
 
 abbrev pub NoSeal : KeptRow → Type 0
@@ -108,7 +109,7 @@ module _ {L : ℕ} {R : Type 0} (S : ℕ) (k : Kind L R) (w : Setting) (law : La
   source-voted e p s bs c now run q (inr (inr x)) =
       let fine : LawfulBlock k (c .block) = x .2 .1 .1 in
       let note = note-block k (s .round .note) (c .block) (x .4) in
-      let same : note .0 .block ≡ c .block = same-lawful k (note .0 .block) (c .block) (q .0 .lawful (note .0 .block) (ap blockOf (note .1))) fine (note .2) in
+      let same : note .0 .block ≡ c .block = same-blocks k (note .0 .block) (c .block) (q .0 .lawful (note .0 .block) (ap blockOf (note .1))) fine (note .2) in
       let n : w .terms (e .who) .seats .n ≡ w .n = law .shares-n (e .who) (now .driven .at-sound) in
       let full : countKept (s .round .votes .«by_seat») ≡ quorum (w .n) =
         eqb-true (countKept (s .round .votes .«by_seat»)) (quorum (w .terms (e .who) .seats .n)) (x .5) ∙ ap quorum n in
@@ -136,7 +137,7 @@ module _ {L : ℕ} {R : Type 0} (S : ℕ) (k : Kind L R) (w : Setting) (law : La
       (notes .shelves s c source new o ends high more (q .0),
         shelve-cases (λ (x : State S R). VotesAt S k w p (x .phase) (blockOf (x .round .note)) (x .round .votes .«by_seat»)) c s (λ _. q .1)
           (λ _. empty-votes S k w p (s .phase) None _ (no-seals 15)) (λ _ _. empty-votes S k w p (s .phase) None _ (no-seals 15)),
-        λ b on. elim (on-grown (shelf S k w (e .who) p) (c .block) b on) [
+        λ b on. elim (on-pushed b (c .block) (shelf S k w (e .who) p) on) [
           | inl old ↦ q .2 b old
           | inr same ↦ subst (λ (x : Block R). LawfulBlock k x × Voted S k w x p) same (source-voted e p s (shelf S k w (e .who) p) c now run q source)
         ]);
@@ -156,7 +157,7 @@ module _ {L : ℕ} {R : Type 0} (S : ℕ) (k : Kind L R) (w : Setting) (law : La
       counting s i b seal bs got c q =
           let on = and-parts (isOn (s .phase)) _ c in
           let note = note-block k (s .round .note) b (and-parts (isNote k (s .round .note) b) _ (on .1) .0) in
-          let same : note .0 .block ≡ b = same-lawful k (note .0 .block) b (q .0 .lawful (note .0 .block) (ap blockOf (note .1))) (got .1 .1) (note .2) in
+          let same : note .0 .block ≡ b = same-blocks k (note .0 .block) b (q .0 .lawful (note .0 .block) (ap blockOf (note .1))) (got .1 .1) (note .2) in
           let first : Question = record { seat = i; statement = voteStatement k b; seal = seal } in
           more-votes S k w p (s .phase) (blockOf (s .round .note)) (s .round .votes .«by_seat») i b seal (q .1) (got .1 .0) (on .0) (ap blockOf (note .1) ∙ ap (λ (x : Block R). Some x) same)
           (λ sound. now .honest (Vote i b seal) (got .0 .0) .0 sound (judged-first (w .accepts) first [] (got .0 .1) .0))
@@ -177,7 +178,7 @@ module _ {L : ℕ} {R : Type 0} (S : ℕ) (k : Kind L R) (w : Setting) (law : La
       (λ i. (note-base S k w i, empty-votes S k w [] On None _ (no-seals 15), λ b on. elim on [ ]))
       (λ i e p s bs q. (lift-note S k w e p (s .phase) (s .view) (s .turn) (blockOf (s .round .note)) (q .0),
         lift-votes S k w e p (s .phase) (blockOf (s .round .note)) (s .round .votes .«by_seat») (q .1),
-        λ b on. let f = q .2 b on in (f .0, was-later (λ e p. Sound w (e .who) × VotesFor S k w b e p) e p (f .1))))
+        λ b on. let f = q .2 b on in (f .0, was-more (λ e p. Sound w (e .who) × VotesFor S k w b e p) e p (f .1))))
       vote-kept
 
   -- a block on a sound seat's shelf was voted for by a sound seat

@@ -1,15 +1,13 @@
--- Constructors are told apart and give back what they hold; one call of a history, and what held of it.
+-- Constructors are told apart and give back what they hold.
 use Prim.Native.Nat.{ℕ}
-use mathlib.Core.Path.{_≡_, refl, ap}
+use mathlib.Core.Path.{_≡_}
 use mathlib.Core.Bool.{true, false}
-use mathlib.Core.List.{List, [], _∷_}
+use mathlib.Core.List.{List, _∷_}
 use native.Mathlib.Omega.{arith}
 use Rattle.std.specs.declared.option.Option.the-variants.{Some, None}
 use Rattle.std.specs.declared.result.Result.{Result}
 use Rattle.std.specs.declared.result.Result.the-variants.{Ok, Err}
 use Rattle.content.specs.declared.refusal.Refusal.{Refusal}
-use Rattle.agreement.specs.History.{Event, History}
-use Rattle.agreement.proofs.Facts.{Was}
 
 module _ {X : Type 0} where
   pub some-same : {x y : X} → Some x ≡ Some y → x ≡ y
@@ -35,9 +33,3 @@ module _ {X : Type 0} where
 
 pub true-false : true ≡ false → ⊥
 true-false e = let z : _≡_ {A = ℕ} 0 1 = cc in omega arith
-
-pub was-now : (P : Event → History → Type 0) (e : Event) (p : History) → P e p → Was P (e ∷ p)
-was-now P e p q = ([], e, p, refl, q)
-
-pub was-later : (P : Event → History → Type 0) (e : Event) (p : History) → Was P p → Was P (e ∷ p)
-was-later P e p q = (e ∷ q .0, q .1, q .2, ap (λ h. e ∷ h) (q .3), q .4)

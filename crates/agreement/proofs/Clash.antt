@@ -5,8 +5,8 @@ use mathlib.Core.Bool.{Bool, true, false, cond, not}
 use mathlib.Core.List.{List, [], _∷_}
 use mathlib.Core.Logic.{_⊎_, inl, inr}
 use native.Mathlib.Omega.{arith}
-use lib.Dec.{eqb, ltb}
-use Rattle.std.proofs.shelf.Tests.{and-parts, cases-bool, eqb-true, ltb-false, or-parts}
+use lib.Dec.{ltb}
+use Rattle.std.proofs.shelf.Tests.{and-parts, ltb-false, or-parts}
 use Rattle.std.specs.declared.option.Option.{Option}
 use Rattle.std.specs.declared.option.Option.the-variants.{Some, None}
 use Rattle.std.specs.declared.result.Result.the-variants.{Ok}
@@ -39,17 +39,19 @@ use Rattle.agreement.specs.Run.{Moment, Run}
 use Rattle.agreement.specs.Setting.{Lawful, Setting, Sound}
 use Rattle.agreement.specs.Theorem.{ClashUnderSoundLeader}
 use Rattle.agreement.proofs.Acceptances.{after-call}
-use Rattle.agreement.proofs.Along.{Handed, Kept, desk-other, handed-good, keep-call}
+use Rattle.agreement.proofs.Along.{Handed, Kept, handed-good, keep-call}
 use Rattle.agreement.proofs.Basics.{ok-same, true-false}
 use Rattle.agreement.proofs.Carried.{empty-reads}
 use Rattle.agreement.proofs.Cases.{proposal-cases, proposed-cases}
 use Rattle.agreement.proofs.Facts.{stage, state}
+use Rattle.agreement.proofs.Invariant.{whose}
 use Rattle.agreement.proofs.Keeps.{proposed-leaves, shelve-cases}
 use Rattle.agreement.proofs.Notes.{NoteInv, Placed, blockOf, note-fine, note-kept, proposal-said, slot-placed}
 use Rattle.agreement.proofs.Primed.{leave-above}
-use Rattle.agreement.proofs.Sent.{BlameOnly, OfferMade, Passing, VoteCast, sent-so}
+use Rattle.agreement.proofs.Sent.{OfferMade, Passing, VoteCast, sent-so}
 use Rattle.agreement.proofs.Statements.{blame-no-proposal, bytes-tell, bytes-tell-rank, proposal-tells, same-self, vote-no-proposal}
-use Rattle.agreement.proofs.Votes.{passing-owns}
+use Rattle.agreement.proofs.Steps.{desk-other}
+use Rattle.agreement.proofs.Votes.{blame-owns, passing-owns}
 
 module _ {S : ℕ} {R : Type 0} where
   -- a seat has offered at this rank, or is past it
@@ -107,23 +109,14 @@ module _ {L : ℕ} {R : Type 0} (S : ℕ) (k : Kind L R) (w : Setting) (law : La
 
   past-step : (i : ℕ) (e : Event) (p : History) (r : Rank) → Run S k w (e ∷ p) → r .turn < 65536 → OfferPast r (state S k w i p) → OfferPast r (state S k w i (e ∷ p))
   past-step i e p r run low q =
-      elim (cases-bool (eqb i (e .who))) [
-        | inl t ↦
-            let same : i ≡ e .who = eqb-true i (e .who) t in
+      elim (whose (e .who) i) [
+        | inl mine ↦
+            let same : i ≡ e .who = sym mine in
             subst (λ (j : ℕ). OfferPast r (state S k w j (e ∷ p))) (sym same)
             (keep-call S k w law (λ s bs. NoteInv S k w (e .who) p s bs × OfferPast r s) e p (run .0) (past-kept r e p low (run .0))
               (note-fine S k w law (e .who) p (run .0 .driven .at-sound) (run .1), subst (λ (j : ℕ). OfferPast r (state S k w j p)) same q) .1)
-        | inr f ↦ subst (λ (d : Desk S R). OfferPast r (d .state)) (sym (desk-other S k w i e p f)) q
+        | inr other ↦ subst (λ (d : Desk S R). OfferPast r (d .state)) (sym (desk-other S k w i e p other)) q
       ]
-
-  blames-no-proposal : (b : Block R) (x : Option (Sending R)) → BlameOnly x → Own S k w (proposalStatement k b) x → ⊥
-  blames-no-proposal b None q own = own
-  blames-no-proposal b (Some relay) q own = own
-  blames-no-proposal b (Some (write (Proposal c seal parent))) q own = q
-  blames-no-proposal b (Some (write (Vote i c seal))) q own = q
-  blames-no-proposal b (Some (write (Blame i view seal))) q own = blame-no-proposal k view b own
-  blames-no-proposal b (Some (write (Certified c))) q own = own
-  blames-no-proposal b (Some (write (Notice view mask seals))) q own = own
 
   -- a proposal that a seat said as its own was offered by it, at its own view and turn
   pub record OfferOf (e : Event) (p : History) (b : Block R) : Type 0 where
@@ -143,7 +136,7 @@ module _ {L : ℕ} {R : Type 0} (S : ℕ) (k : Kind L R) (w : Setting) (law : La
   own-proposal : (e : Event) (p : History) (b : Block R) (o : Outcome S R) → Moment S k w e p → Run S k w p → LawfulBlock k b → result S k w e p ≡ Ok o →
       Own S k w (proposalStatement k b) (o .sends .message) ⊎ Own S k w (proposalStatement k b) (o .sends .blame) →
       Own S k w (proposalStatement k b) (o .sends .message) × OfferOf e p b
-  own-proposal e p b o now run lawful r (inr own) = absurd (blames-no-proposal b (o .sends .blame) (sent-so S k w law e p o now r .1) own)
+  own-proposal e p b o now run lawful r (inr own) = absurd (blame-owns S k w (proposalStatement k b) (λ v. blame-no-proposal k v b) (o .sends .blame) (sent-so S k w law e p o now r .1) own)
   own-proposal e p b o now run lawful r (inl own) = (own, by (sent-so S k w law e p o now r .0))
     where
       s : State S R

@@ -42,8 +42,8 @@ use Rattle.agreement.proofs.Keeps.{Source, proposed-leaves, shelve-cases}
 use Rattle.agreement.proofs.Notes.{NoteInv, blockOf, lift-note, note-base, note-kept}
 use Rattle.agreement.proofs.Primed.{leave-above}
 use Rattle.agreement.proofs.Shelved.{turns-below, turns-there}
-use Rattle.agreement.proofs.Shelves.{lawful-high}
-use Rattle.agreement.proofs.Verdicts.{last-on-shelf, rank-found, shelf-keeps}
+use Rattle.agreement.proofs.Shelves.{lawful-high, on-append, on-last}
+use Rattle.agreement.proofs.Verdicts.{rank-found}
 
 -- what is added to a list tells itself
 last-same : {X : Type 0} (xs : List X) (x y : X) → xs ++ (x ∷ []) ≡ xs ++ (y ∷ []) → x ≡ y
@@ -81,7 +81,7 @@ module _ {L : ℕ} {R : Type 0} (S : ℕ) (k : Kind L R) (w : Setting) where
   CommitInv i h s bs = NoteInv S k w i h s bs × ((b : Block R) → s .committed ≡ Some b → Commits S k w i b h × OnShelf b bs × (2 * b .rank .view ≤ stage s))
 
   raise : (i : ℕ) (h : History) (committed : Option (Block R)) (level level' : ℕ) (bs cs : List (Block R)) → level ≤ level' → CommitAt i h committed level bs → CommitAt i h committed level' (bs ++ cs)
-  raise i h committed level level' bs cs up q b e = let f = q b e in (f .0, shelf-keeps bs cs b (f .1), let l = f .2 in omega arith)
+  raise i h committed level level' bs cs up q b e = let f = q b e in (f .0, on-append b bs cs (f .1), let l = f .2 in omega arith)
 
   raise-only : (i : ℕ) (h : History) (committed : Option (Block R)) (level level' : ℕ) (bs : List (Block R)) → level ≤ level' → CommitAt i h committed level bs → CommitAt i h committed level' bs
   raise-only i h committed level level' bs up q b e = let f = q b e in (f .0, f .1, let l = f .2 in omega arith)
@@ -135,7 +135,7 @@ module _ {L : ℕ} {R : Type 0} (S : ℕ) (k : Kind L R) (w : Setting) (law : La
             let view : s .view ≡ c .block .rank .view = eqb-true (s .view) (c .block .rank .view) (on .1) in
             let level : stage s ≡ 2 * s .view = ap (λ (x : Bool). cond x (2 * s .view) (2 * s .view + 1)) (on .0) in
             subst (λ (x : Block R). Commits S k w (e .who) x (e ∷ p) × OnShelf x (bs ++ (c .block ∷ [])) × (2 * x .rank .view ≤ stage s)) same
-            (inl (refl, ((o, ends, pos), (o, ends, more))), last-on-shelf bs (c .block), omega arith))
+            (inl (refl, ((o, ends, pos), (o, ends, more))), on-last (c .block) bs, omega arith))
 
   pub commits-fine : (i : ℕ) (h : History) → Sound w i → Run S k w h → CommitInv S k w i h (state S k w i h) (shelf S k w i h)
   commits-fine =

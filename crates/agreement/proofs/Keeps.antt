@@ -33,8 +33,9 @@ use Rattle.seat.specs.declared.state.Terms.{Terms}
 use Rattle.seat.specs.declared.taking.Verdict.the-variants.{Known, New}
 use Rattle.agreement.proofs.Cases.{NoteFor, blame-cases, notice-cases, proposal-cases, proposed-cases, taken-cases, tick-cases, vote-cases}
 use Rattle.agreement.proofs.Facts.{OnShelf}
+use Rattle.agreement.proofs.OneStep.{judged}
+use Rattle.agreement.proofs.Shelves.{on-from-find, on-last}
 use Rattle.agreement.proofs.Statements.{same-alike, same-self}
-use Rattle.agreement.proofs.Verdicts.{found-on-shelf, known-there, last-on-shelf}
 
 -- the note that a proposal makes
 abbrev pub freshNote : {R : Type 0} → Block R → Note R
@@ -48,14 +49,14 @@ ParentIn {R} (Some c) bs = (x : Block R) × OnShelf x bs × (x .rank ≡ c .bloc
 -- so it is once the certificate was taken in, known or new
 pub parent-known : {L S : ℕ} {R : Type 0} (k : Kind L R) (s : State S R) (bs : List (Block R)) (cells : ℕ) (c : Certificate R (List ℕ)) → judgeIn k s bs cells (c .block) ≡ Ok Known → ParentIn (Some c) bs
 parent-known k s bs cells c e =
-    let f = known-there k s bs cells (c .block) e in
-    (f .0, found-on-shelf (c .block .rank) bs (f .0) (f .1), find-rank (c .block .rank) bs (f .0) (f .1), same-alike k (f .0) (c .block) (f .2) .height)
+    let f = judged k s bs cells (c .block) Known e in
+    (f .0, on-from-find (c .block .rank) bs (f .0) (f .1), find-rank (c .block .rank) bs (f .0) (f .1), same-alike k (f .0) (c .block) (f .2) .height)
 
 pub parent-new : {R : Type 0} (bs : List (Block R)) (c : Certificate R (List ℕ)) → ParentIn (Some c) (bs ++ (c .block ∷ []))
-parent-new bs c = (c .block, last-on-shelf bs (c .block), refl, refl)
+parent-new bs c = (c .block, on-last (c .block) bs, refl, refl)
 
 -- taking a note leaves the slot as it is
-at-note : {S : ℕ} {R : Type 0} (f : Phase) (s : State S R) (n : Option (Note R)) (b : Block R) → atSlot f (withNote n s) b ≡ atSlot f s b
+pub at-note : {S : ℕ} {R : Type 0} (f : Phase) (s : State S R) (n : Option (Note R)) (b : Block R) → atSlot f (withNote n s) b ≡ atSlot f s b
 at-note On s n b = refl
 at-note (Leaving since) s n b = refl
 

@@ -18,7 +18,7 @@ use Rattle.wire.specs.declared.message.Certificate.{Certificate}
 use Rattle.wire.specs.declared.message.Parts.the-variants.{Proposal, Notice}
 use Rattle.shelf.specs.Blocks.{topTurn}
 use Rattle.seat.specs.HandIn.{atSlot, lastView, slotOpen}
-use Rattle.seat.specs.Parts.{isOn, newState}
+use Rattle.seat.specs.Parts.{newState}
 use Rattle.seat.specs.Tick.{roundAt, turnAfter}
 use Rattle.seat.specs.declared.state.Note.{Note}
 use Rattle.seat.specs.declared.state.Phase.{Phase}
@@ -41,10 +41,6 @@ blockOf (Some note) = Some (note .block)
 abbrev pub Placed : {R : Type 0} → Phase → ℕ → ℕ → Block R → Type 0
 Placed On view turn b = (b .rank .view ≡ view) × (b .rank .turn ≡ turn)
 Placed (Leaving since) view turn b = (b .rank .view ≡ view + 1) × (b .rank .turn ≡ 0)
-
-on-phase : (f : Phase) → isOn f ≡ true → f ≡ On
-on-phase On e = refl
-on-phase (Leaving since) e = absurd (let z : _≡_ {A = ℕ} 0 1 = cc in omega arith)
 
 leaving-on : (since : ℕ) → _≡_ {A = Phase} On (Leaving since) → ⊥
 leaving-on since e = let z : _≡_ {A = ℕ} 0 1 = cc in omega arith

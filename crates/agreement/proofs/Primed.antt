@@ -6,7 +6,7 @@ use mathlib.Core.List.{List, [], _∷_, _++_}
 use mathlib.Core.Logic.{_⊎_, inl, inr}
 use native.Mathlib.Omega.{arith}
 use lib.Dec.{eqb, ltb}
-use Rattle.std.proofs.shelf.Tests.{and-parts, cases-bool, eqb-true, eqb-false, ltb-true, or-cases}
+use Rattle.std.proofs.shelf.Tests.{and-parts, eqb-true, eqb-false, ltb-true, or-cases}
 use Rattle.std.specs.declared.option.Option.{Option}
 use Rattle.std.specs.declared.option.Option.the-variants.{Some, None}
 use Rattle.content.specs.Kinds.{Kind}
@@ -25,11 +25,13 @@ use Rattle.seat.specs.declared.state.State.{State}
 use Rattle.agreement.specs.History.{Desk, Event, History}
 use Rattle.agreement.specs.Run.{Moment, Run}
 use Rattle.agreement.specs.Setting.{Lawful, Setting, Sound}
-use Rattle.agreement.proofs.Along.{Kept, desk-other, keep-call}
+use Rattle.agreement.proofs.Along.{Kept, keep-call}
 use Rattle.agreement.proofs.Basics.{true-false}
 use Rattle.agreement.proofs.Facts.{Earlier, NoteIs, Primed, stage, state}
+use Rattle.agreement.proofs.Invariant.{whose}
 use Rattle.agreement.proofs.Keeps.{freshNote, shelve-cases}
 use Rattle.agreement.proofs.Notes.{NoteInv, note-fine, note-kept}
+use Rattle.agreement.proofs.Steps.{desk-other}
 
 note-is : {R : Type 0} (b : Block R) (old : Option (Note R)) (note : Note R) → old ≡ Some note → NoteIs b old → note .block ≡ b
 note-is b old note e q = subst (λ x. NoteIs b x) e q
@@ -148,13 +150,13 @@ module _ {L : ℕ} {R : Type 0} (S : ℕ) (k : Kind L R) (w : Setting) (law : La
   -- one call leaves a primed seat primed
   pub primed-step : (i : ℕ) (e : Event) (p : History) (b : Block R) → Sound w i → Run S k w (e ∷ p) → LawfulBlock k b → Primed b (state S k w i p) → Primed b (state S k w i (e ∷ p))
   primed-step i e p b sound run lawful q =
-      elim (cases-bool (eqb i (e .who))) [
-        | inl t ↦
-            let same : i ≡ e .who = eqb-true i (e .who) t in
+      elim (whose (e .who) i) [
+        | inl mine ↦
+            let same : i ≡ e .who = sym mine in
             subst (λ (j : ℕ). Primed b (state S k w j (e ∷ p))) (sym same)
             (keep-call S k w law (λ s bs. NoteInv S k w (e .who) p s bs × Primed b s) e p (run .0) (primed-kept b e p lawful (run .0))
               (note-fine S k w law (e .who) p (run .0 .driven .at-sound) (run .1), subst (λ (j : ℕ). Primed b (state S k w j p)) same q) .1)
-        | inr f ↦ subst (λ (d : Desk S R). Primed b (d .state)) (sym (desk-other S k w i e p f)) q
+        | inr other ↦ subst (λ (d : Desk S R). Primed b (d .state)) (sym (desk-other S k w i e p other)) q
       ]
 
   primed-later : (i : ℕ) (p q : History) (b : Block R) → Sound w i → Run S k w (q ++ p) → LawfulBlock k b → Primed b (state S k w i p) → Primed b (state S k w i (q ++ p))

@@ -41,14 +41,13 @@ use Rattle.agreement.specs.Setting.{Lawful, Setting}
 use Rattle.agreement.proofs.Acceptances.{parent-in-on}
 use Rattle.agreement.proofs.Along.{desk-done}
 use Rattle.agreement.proofs.Basics.{true-false}
-use Rattle.agreement.proofs.Carried.{good-step, judge-denies}
+use Rattle.agreement.proofs.Carried.{good-step, judge-denies, same-blocks}
 use Rattle.agreement.proofs.Cases.{NoteFor, proposed-cases}
 use Rattle.agreement.proofs.Facts.{GoodMessage, NoteIs, OnIn, OnShelf, Primed, shelf, stage, state}
 use Rattle.agreement.proofs.Invariant.{ordered}
-use Rattle.agreement.proofs.Keeps.{ParentIn, parent-known, parent-new, proposed-leaves, shelve-cases}
+use Rattle.agreement.proofs.Keeps.{ParentIn, at-note, parent-known, parent-new, proposed-leaves, shelve-cases}
 use Rattle.agreement.proofs.Notes.{blockOf, note-fine}
 use Rattle.agreement.proofs.Shelved.{turns-below}
-use Rattle.agreement.proofs.Statements.{same-lawful}
 
 -- a later turn stands on the turn before
 later-turn : (view turn height pview pturn : ℕ) → lawfulNumbers view turn height pview pturn ≡ true → 0 < turn → (pview ≡ view) × (pturn + 1 ≡ turn) × (height ≡ 1 → ⊥)
@@ -181,11 +180,7 @@ module _ {L : ℕ} {R : Type 0} (S : ℕ) (k : Kind L R) (w : Setting) (law : La
           ]
         ]
 
-      -- the slot of a seat with another note, or spoiled, is the same
-      at-note : (f : Phase) (n : Option (Note R)) (s : State S R) → atSlot f s b ≡ true → atSlot f (withNote n s) b ≡ true
-      at-note On n s q = q
-      at-note (Leaving since) n s q = q
-
+      -- the slot of a seat that is spoiled is the same
       at-spoilt : (f : Phase) (s : State S R) → atSlot f s b ≡ true → atSlot f (withSpoiled true s) b ≡ true
       at-spoilt On s q = q
       at-spoilt (Leaving since) s q = q
@@ -197,17 +192,17 @@ module _ {L : ℕ} {R : Type 0} (S : ℕ) (k : Kind L R) (w : Setting) (law : La
       is-b : (x : Outcome S R) (note : Note R) → x ≡ final → blockOf (x .state .round .note) ≡ Some (note .block) → NoteFor k b (o .state .round .note) note → note .block ≡ b
       is-b x note it n (inl f) = ap (λ (y : Note R). y .block) (f .1)
       is-b x note it n (inr f) =
-          same-lawful k (note .block) b (final-lawful e p x (note .block) run (r ∙ ap (λ (y : Outcome S R). Ok y) (sym it)) n) (lawful .0) (f .1)
+          same-blocks k (note .block) b (final-lawful e p x (note .block) run (r ∙ ap (λ (y : Outcome S R). Ok y) (sym it)) n) (lawful .0) (f .1)
 
       taking : (note : Note R) (rest : Word) → slotOpen (o .state) b ≡ true → NoteFor k b (o .state .round .note) note → (rest ≡ Noted) ⊎ (rest ≡ o .word) → adds o rest None None (withNote (Some note) (o .state)) ≡ final → Primed b (withNote (Some note) (o .state))
       taking note rest slot fit _ it =
-          primed-at b (withNote (Some note) (o .state)) (at-note (o .state .phase) (Some note) (o .state) (and-parts (not (o .state .spoiled)) _ slot .1))
+          primed-at b (withNote (Some note) (o .state)) (at-note (o .state .phase) (o .state) (Some note) b ∙ and-parts (not (o .state .spoiled)) _ slot .1)
           (inr (is-b (adds o rest None None (withNote (Some note) (o .state))) note it refl fit))
 
       passing : (note : Note R) → slotOpen (o .state) b ≡ true → NoteFor k b (o .state .round .note) note → acceptable (o .state) (note .block) ≡ true → isSome (note .accepted) ≡ false → adds o Accepted (Some relay) None (withNote (Some (acceptedAt (o .state .now) note)) (o .state)) ≡ final →
           Primed b (withNote (Some (acceptedAt (o .state .now) note)) (o .state))
       passing note slot fit _ _ it =
-          primed-at b (withNote (Some (acceptedAt (o .state .now) note)) (o .state)) (at-note (o .state .phase) (Some (acceptedAt (o .state .now) note)) (o .state) (and-parts (not (o .state .spoiled)) _ slot .1))
+          primed-at b (withNote (Some (acceptedAt (o .state .now) note)) (o .state)) (at-note (o .state .phase) (o .state) (Some (acceptedAt (o .state .now) note)) b ∙ and-parts (not (o .state .spoiled)) _ slot .1)
           (inr (is-b (adds o Accepted (Some relay) None (withNote (Some (acceptedAt (o .state .now) note)) (o .state))) note it refl fit))
 
       clashing : (note : Note R) → slotOpen (o .state) b ≡ true → o .state .round .note ≡ Some note → sameBlock k (note .block) b ≡ false → clashes t o ≡ final → Primed b (clashes t o .state)

@@ -50,9 +50,10 @@ use Rattle.agreement.proofs.Facts.{Candidate, OnIn, OnShelf, ParentOn, shelf, 
 use Rattle.agreement.proofs.Keeps.{Source}
 use Rattle.agreement.proofs.OneStep.{parent-from-test}
 use Rattle.agreement.proofs.Shelved.{one-a-rank}
+use Rattle.agreement.proofs.Shelves.{on-from-find}
 use Rattle.agreement.proofs.Statements.{same-self}
 use Rattle.agreement.proofs.Unread.{Unread, unread, unsealed}
-use Rattle.agreement.proofs.Verdicts.{ForkThere, RefusedThere, found-on-shelf, rank-found, refused-there}
+use Rattle.agreement.proofs.Verdicts.{ForkThere, RefusedThere, rank-found, refused-there}
 
 -- a refusal that has to do with a certificate that is taken in, by its number
 abbrev pub Shelving : Refusal → Type 0
@@ -230,14 +231,14 @@ module _ {L : ℕ} {R : Type 0} (S : ℕ) (k : Kind L R) (w : Setting) (law : La
     | inr more ↦
         let bs : List (Block R) = shelf S k w (e .who) p in
         let f = rank-found (b .parent) bs c on rank in
-        let same : f .0 ≡ c = one-a-rank S k w law (e .who) p (f .0) c (run .0 .driven .at-sound) (run .1) (found-on-shelf (b .parent) bs (f .0) (f .1)) on (find-rank (b .parent) bs (f .0) (f .1) ∙ sym rank) in
+        let same : f .0 ≡ c = one-a-rank S k w law (e .who) p (f .0) c (run .0 .driven .at-sound) (run .1) (on-from-find (b .parent) bs (f .0) (f .1)) on (find-rank (b .parent) bs (f .0) (f .1) ∙ sym rank) in
         cond-false (eqb (b .height) 1) _ _ more ∙ ap (oneUp (b .height)) (f .1) ∙ eq-eqb (f .0 .height + 1) (b .height) (ap (λ (y : Block R). y .height + 1) same ∙ high)
     ]
 
   parent-there : (e : Event) (p : History) (b : Block R) → parentThere (shelf S k w (e .who) p) b ≡ true → ParentOn S k w b (shelf S k w (e .who) p)
   parent-there e p b t = elim (parent-from-test (shelf S k w (e .who) p) b t) [
     | inl one ↦ inl one
-    | inr x ↦ inr (x .0, found-on-shelf (b .parent) (shelf S k w (e .who) p) (x .0) (x .1 .0), find-rank (b .parent) (shelf S k w (e .who) p) (x .0) (x .1 .0), x .1 .1)
+    | inr x ↦ inr (x .0, on-from-find (b .parent) (shelf S k w (e .who) p) (x .0) (x .1 .0), find-rank (b .parent) (shelf S k w (e .who) p) (x .0) (x .1 .0), x .1 .1)
     ]
 
   pub orphan-because : (e : Event) (p : History) → Run S k w (e ∷ p) → Refused S k w Orphan e p →
@@ -265,7 +266,7 @@ module _ {L : ℕ} {R : Type 0} (S : ℕ) (k : Kind L R) (w : Setting) (law : La
       by f (inr (inl q)) =
           let b : Block R = f .certificate .block in
           let x = q .1 in
-          (b, x .0, candidate e p Rival run f, found-on-shelf (b .rank) (shelf S k w (e .who) p) (x .0) (x .1), find-rank (b .rank) (shelf S k w (e .who) p) (x .0) (x .1),
+          (b, x .0, candidate e p Rival run f, on-from-find (b .rank) (shelf S k w (e .who) p) (x .0) (x .1), find-rank (b .rank) (shelf S k w (e .who) p) (x .0) (x .1),
             λ same. true-false (sym (subst (λ (y : Block R). sameBlock k (x .0) y ≡ true) (sym same) (same-self k (x .0))) ∙ x .2))
       by f (inr (inr (inl q))) = absurd (let z : _≡_ {A = ℕ} 10 12 = ap numberOf (q .0) in omega arith)
       by f (inr (inr (inr (inl q)))) = absurd (let z : _≡_ {A = ℕ} 10 11 = ap numberOf q in omega arith)

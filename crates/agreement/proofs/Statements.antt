@@ -64,7 +64,7 @@ module _ {L : ℕ} {R : Type 0} (k : Kind L R) where
   pub blame-no-proposal : (v : ℕ) (b : Block R) → blameStatement v ≡ proposalStatement k b → ⊥
   blame-no-proposal v b e = let z : _≡_ {A = ℕ} 3 1 = head-same e in omega arith
 
-  -- the test of blocks: what it says of their numbers, and that it decides whether lawful blocks are one
+  -- what the test of blocks says of their numbers
   pub record Alike (a b : Block R) : Type 0 where
     pub rank : a .rank ≡ b .rank
     pub height : a .height ≡ b .height
@@ -82,14 +82,6 @@ module _ {L : ℕ} {R : Type 0} (k : Kind L R) where
         parent = same-ranks (a .parent) (b .parent) (r .0);
         shown = sameBytes-decides (k .shown (a .content)) (k .shown (b .content)) .0 (r .1);
       }
-
-  pub same-lawful : (a b : Block R) → LawfulBlock k a → LawfulBlock k b → sameBlock k a b ≡ true → a ≡ b
-  same-lawful a b la lb e =
-      let s = same-alike a b e in
-      let f : blockBytes k a ≡ blockBytes k b =
-        λ i. spell 2 (s .rank i .view) ++ (spell 2 (s .rank i .turn) ++ (spell 4 (s .height i) ++
-        (spell 2 (s .parent i .view) ++ (spell 2 (s .parent i .turn) ++ s .shown i)))) in
-      bytes-tell a b la lb f
 
   same-rank : (a : Rank) → sameRank a a ≡ true
   same-rank a = and-from (eqb (a .view) (a .view)) (eqb (a .turn) (a .turn)) (eq-eqb (a .view) (a .view) refl) (eq-eqb (a .turn) (a .turn) refl)

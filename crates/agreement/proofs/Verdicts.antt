@@ -2,9 +2,8 @@
 use Prim.Native.Nat.{ℕ, zero, suc, _+_, _-_}
 use mathlib.Core.Path.{_≡_, refl, sym, ap, subst, _∙_}
 use mathlib.Core.Bool.{Bool, true, false, cond, not}
-use mathlib.Core.List.{List, [], _∷_, _++_}
+use mathlib.Core.List.{List, [], _∷_}
 use mathlib.Core.Logic.{_⊎_, inl, inr}
-use native.Mathlib.Omega.{arith}
 use lib.Dec.{eqb, ltb}
 use lib.ListN.{length}
 use Rattle.std.proofs.shelf.Tests.{cases-bool, eq-eqb, and-from}
@@ -20,13 +19,12 @@ use Rattle.wire.specs.Ranks.{parentOf, sameRank}
 use Rattle.wire.specs.declared.block.Block.{Block}
 use Rattle.wire.specs.declared.block.Rank.{Rank}
 use Rattle.shelf.specs.Blocks.{answered, belowBlock, climb, find, oneLower, readBelow}
-use Rattle.shelf.proofs.Scans.{find-here, find-past, find-none}
+use Rattle.shelf.proofs.Scans.{find-here, find-past}
 use Rattle.seat.specs.TakeIn.{commits, extends, isLast, judgeFound, judgeIn, parentThere}
 use Rattle.seat.specs.declared.state.State.{State}
 use Rattle.seat.specs.declared.taking.Verdict.{Verdict}
 use Rattle.seat.specs.declared.taking.Verdict.the-variants.{Known, New}
 use Rattle.agreement.proofs.Basics.{err-ok, err-same, none-some, ok-same, some-same, true-false}
-use Rattle.agreement.proofs.Cases.{when-ok}
 use Rattle.agreement.proofs.Facts.{OnShelf}
 use Rattle.agreement.proofs.Statements.{same-self}
 
@@ -35,15 +33,6 @@ same-rank-self a b e =
     and-from (eqb (a .view) (b .view)) (eqb (a .turn) (b .turn)) (eq-eqb (a .view) (b .view) (ap (λ (r : Rank). r .view) e)) (eq-eqb (a .turn) (b .turn) (ap (λ (r : Rank). r .turn) e))
 
 module _ {R : Type 0} where
-  -- what is found is on the shelf
-  pub found-on-shelf : (r : Rank) (bs : List (Block R)) (x : Block R) → find r bs ≡ Some x → OnShelf x bs
-  found-on-shelf r [] x e = absurd (none-some (sym (find-none r) ∙ e))
-  found-on-shelf r (b ∷ bs) x e =
-      elim (cases-bool (sameRank (b .rank) r)) [
-        | inl t ↦ inl (some-same (sym (find-here r b bs t) ∙ e))
-        | inr f ↦ inr (found-on-shelf r bs x (sym (find-past r b bs f) ∙ e))
-      ]
-
   -- a rank that is on the shelf is found
   pub rank-found : (r : Rank) (bs : List (Block R)) (x : Block R) → OnShelf x bs → x .rank ≡ r → (y : Block R) × (find r bs ≡ Some y)
   rank-found r [] x o e = elim o [ ]
@@ -56,21 +45,6 @@ module _ {R : Type 0} where
               | inr q ↦ let g = rank-found r bs x q e in (g .0, find-past r b bs f ∙ g .1)
             ])
       ]
-
-  pub last-on-shelf : (bs : List (Block R)) (x : Block R) → OnShelf x (bs ++ (x ∷ []))
-  last-on-shelf [] x = inl refl
-  last-on-shelf (b ∷ bs) x = inr (last-on-shelf bs x)
-
-  pub shelf-keeps : (bs cs : List (Block R)) (x : Block R) → OnShelf x bs → OnShelf x (bs ++ cs)
-  shelf-keeps [] cs x o = elim o [ ]
-  shelf-keeps (b ∷ bs) cs x (inl e) = inl e
-  shelf-keeps (b ∷ bs) cs x (inr o) = inr (shelf-keeps bs cs x o)
-
-  pub on-grown : (bs : List (Block R)) (y x : Block R) → OnShelf x (bs ++ (y ∷ [])) → OnShelf x bs ⊎ (y ≡ x)
-  on-grown [] y x (inl e) = inr e
-  on-grown [] y x (inr o) = elim o [ ]
-  on-grown (b ∷ bs) y x (inl e) = inl (inl e)
-  on-grown (b ∷ bs) y x (inr o) = elim (on-grown bs y x o) [ inl q ↦ inl (inr q) | inr q ↦ inr q ]
 
   -- a climb is refused only where the shelf is broken
   lower-err : (h : ℕ) (o : Option (Block R)) (r : Refusal) → oneLower h o ≡ Err r → r ≡ BrokenShelf
@@ -114,50 +88,6 @@ module _ {R : Type 0} where
       by (Some b) e = low (eqb h 0) (ltb (b .height) h) (climb (b .height - h) bs b) (λ y q. climb-err (b .height - h) bs b y q) e
 
 module _ {L S : ℕ} {R : Type 0} (k : Kind L R) (s : State S R) (bs : List (Block R)) (cells : ℕ) (b : Block R) where
-  -- a known block is on the shelf
-  pub known-there : judgeIn k s bs cells b ≡ Ok Known → (x : Block R) × (find (b .rank) bs ≡ Some x) × (sameBlock k x b ≡ true)
-  known-there e = by (find (b .rank) bs) refl e
-    where
-      last : (o : Block R) (r : Result (Option (Block R)) Refusal) → isLast k o r ≡ Ok Known → ⊥
-      last o (Err x) e = err-ok e
-      last o (Ok None) e = err-ok e
-      last o (Ok (Some y)) e = lasts (sameBlock k y o) e
-        where
-          lasts : (t : Bool) → _≡_ {A = Result Verdict Refusal} (cond t (Ok New) (Err Fork)) (Ok Known) → ⊥
-          lasts true e = let z : _≡_ {A = ℕ} 0 1 = cc in omega arith
-          lasts false e = err-ok e
-
-      extend : (o : Option (Block R)) → extends k bs o b ≡ Ok Known → ⊥
-      extend None e = let z : _≡_ {A = ℕ} 0 1 = cc in omega arith
-      extend (Some l) e = last l (readBelow bs (parentOf b) (l .height)) e
-
-      three : (t : Bool) → _≡_ {A = Result Verdict Refusal} (cond t (extends k bs (s .committed) b) (Ok New)) (Ok Known) → ⊥
-      three true e = extend (s .committed) e
-      three false e = let z : _≡_ {A = ℕ} 0 1 = cc in omega arith
-
-      by : (o : Option (Block R)) → find (b .rank) bs ≡ o → judgeFound k s bs cells b o ≡ Ok Known → (x : Block R) × (find (b .rank) bs ≡ Some x) × (sameBlock k x b ≡ true)
-      by None f e =
-          let g = when-ok (parentThere bs b) Orphan _ Known e in
-          let h = when-ok (ltb (length bs) cells) Full _ Known (g .1) in
-          absurd (three (commits s b) (h .1))
-      by (Some x) f e = (x, f, when-ok (sameBlock k x b) Rival (Ok Known) Known e .0)
-
-  -- a new block's rank is not there, its parent is
-  pub record NewThere : Type 0 where
-    pub rank-free : find (b .rank) bs ≡ None
-    pub parent : parentThere bs b ≡ true
-    pub extending : commits s b ≡ true → extends k bs (s .committed) b ≡ Ok New
-
-  pub new-there : judgeIn k s bs cells b ≡ Ok New → NewThere
-  new-there e = by (find (b .rank) bs) refl e
-    where
-      by : (o : Option (Block R)) → find (b .rank) bs ≡ o → judgeFound k s bs cells b o ≡ Ok New → NewThere
-      by None f e =
-          let g = when-ok (parentThere bs b) Orphan _ New e in
-          let h = when-ok (ltb (length bs) cells) Full _ New (g .1) in
-          record { rank-free = f; parent = g .0; extending = λ t. sym (ap (λ u. cond u (extends k bs (s .committed) b) (Ok New)) t) ∙ h .1 }
-      by (Some x) f e = let g = when-ok (sameBlock k x b) Rival (Ok Known) New e in absurd (let h = g .1 in let z : _≡_ {A = ℕ} 0 1 = cc in omega arith)
-
   -- why a certificate is refused
   pub record ForkThere : Type 0 where
     pub rank-free : find (b .rank) bs ≡ None

@@ -13,7 +13,7 @@ use Rattle.std.specs.declared.result.Result.the-variants.{Ok}
 use Rattle.content.specs.Kinds.{Kind}
 use Rattle.wire.specs.Asked.{Question, bodyAsked, judge, rowAsked}
 use Rattle.wire.specs.Lawful.{LawfulBlock, LawfulBody}
-use Rattle.wire.specs.Layout.{proposalStatement, voteStatement}
+use Rattle.wire.specs.Layout.{blameStatement, proposalStatement, voteStatement}
 use Rattle.wire.specs.Masks.{faults, lawfulMask, ones, quorum}
 use Rattle.wire.specs.declared.block.Block.{Block}
 use Rattle.wire.specs.declared.message.Certificate.{Certificate}
@@ -24,8 +24,8 @@ use Rattle.agreement.specs.History.{Event, History, Own, Said, result}
 use Rattle.agreement.specs.Run.{Each, HonestSeal, Moment, Run}
 use Rattle.agreement.specs.Setting.{Lawful, Setting, Sound, unsound}
 use Rattle.agreement.proofs.Along.{Handed}
-use Rattle.agreement.proofs.Basics.{was-later, was-now}
 use Rattle.agreement.proofs.Facts.{Voted, VotesFor, shelf, state}
+use Rattle.agreement.proofs.Moments.{was-here, was-more}
 use Rattle.agreement.proofs.Notes.{blockOf, note-fine}
 use Rattle.agreement.proofs.Quorum.{among-each, asked-sound, judged, judged-first, unsound-from, unsoundFrom}
 use Rattle.agreement.proofs.Sent.{BlameOnly, OfferMade, Passing, VoteCast, sent-so}
@@ -41,20 +41,21 @@ module _ {L : ℕ} {R : Type 0} (S : ℕ) (k : Kind L R) (w : Setting) where
   passing-owns st (Some (write (Certified c))) q own = own
   passing-owns st (Some (write (Notice view mask seals))) q own = own
 
-  blames-no-vote : (b : Block R) (x : Option (Sending R)) → BlameOnly x → Own S k w (voteStatement k b) x → ⊥
-  blames-no-vote b None q own = own
-  blames-no-vote b (Some relay) q own = own
-  blames-no-vote b (Some (write (Proposal c seal parent))) q own = q
-  blames-no-vote b (Some (write (Vote i c seal))) q own = q
-  blames-no-vote b (Some (write (Blame i view seal))) q own = blame-no-vote k view b own
-  blames-no-vote b (Some (write (Certified c))) q own = own
-  blames-no-vote b (Some (write (Notice view mask seals))) q own = own
+  -- nor does a blame own what is never blame
+  pub blame-owns : (st : List ℕ) → ((v : ℕ) → blameStatement v ≡ st → ⊥) → (x : Option (Sending R)) → BlameOnly x → Own S k w st x → ⊥
+  blame-owns st never None q own = own
+  blame-owns st never (Some relay) q own = own
+  blame-owns st never (Some (write (Proposal c seal parent))) q own = q
+  blame-owns st never (Some (write (Vote i c seal))) q own = q
+  blame-owns st never (Some (write (Blame i view seal))) q own = never view own
+  blame-owns st never (Some (write (Certified c))) q own = own
+  blame-owns st never (Some (write (Notice view mask seals))) q own = own
 
 module _ {L : ℕ} {R : Type 0} (S : ℕ) (k : Kind L R) (w : Setting) (law : Lawful w) where
   -- a seat's own statement that is a vote for b was sent as such a vote
   own-vote : (e : Event) (p : History) (b : Block R) (o : Outcome S R) → Moment S k w e p → Run S k w p → LawfulBlock k b → result S k w e p ≡ Ok o →
       Own S k w (voteStatement k b) (o .sends .message) ⊎ Own S k w (voteStatement k b) (o .sends .blame) → VotesFor S k w b e p
-  own-vote e p b o now run lawful r (inr own) = absurd (blames-no-vote S k w b (o .sends .blame) (sent-so S k w law e p o now r .1) own)
+  own-vote e p b o now run lawful r (inr own) = absurd (blame-owns S k w (voteStatement k b) (λ v. blame-no-vote k v b) (o .sends .blame) (sent-so S k w law e p o now r .1) own)
   own-vote e p b o now run lawful r (inl own) = by (sent-so S k w law e p o now r .0)
     where
       by : Passing (o .sends .message) ⊎ (VoteCast S k w e p o ⊎ OfferMade S k w e p o) → VotesFor S k w b e p
@@ -73,9 +74,9 @@ module _ {L : ℕ} {R : Type 0} (S : ℕ) (k : Kind L R) (w : Setting) (law : La
   pub said-voted : (h : History) (j : ℕ) (b : Block R) → Run S k w h → LawfulBlock k b → Said S k w j (voteStatement k b) h → Voted S k w b h
   said-voted [] j b run lawful said = elim said [ ]
   said-voted (e ∷ p) j b run lawful (inl x) =
-      was-now (λ e p. Sound w (e .who) × VotesFor S k w b e p) e p
+      was-here (λ e p. Sound w (e .who) × VotesFor S k w b e p) e p
       (run .0 .driven .at-sound, own-vote e p b (x .1 .0) (run .0) (run .1) lawful (x .1 .1) (x .1 .2))
-  said-voted (e ∷ p) j b run lawful (inr x) = was-later (λ e p. Sound w (e .who) × VotesFor S k w b e p) e p (said-voted p j b (run .1) lawful x)
+  said-voted (e ∷ p) j b run lawful (inr x) = was-more (λ e p. Sound w (e .who) × VotesFor S k w b e p) e p (said-voted p j b (run .1) lawful x)
 
   -- more seats make a quorum than can go wrong
   pub quorum-above : unsoundFrom (w .sound) 0 (w .n) < quorum (w .n)
