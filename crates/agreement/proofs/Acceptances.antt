@@ -89,10 +89,13 @@ module _ {L : ℕ} {R : Type 0} (S : ℕ) (k : Kind L R) (w : Setting) where
         mine = refl;
         at-tick = ap (λ (x : State S R). x .now) (done .1);
         on-after = (ap (λ (x : State S R). x .phase) (done .1) ∙ here, ap (λ (x : State S R). x .view) (done .1) ∙ sym (at .0));
-        relays = (inboxOf (e .what), (o, ends, inr (inl (subst (λ (x : Option (Sending R)). Is S k w (inboxOf (e .what)) (inboxOf (e .what)) x) (sym se) refl))),
-          λ x reads. (seal, parent, ok-same (sym reads ∙ got .0 .0) ∙ ap (λ (y : Block R). Proposal y seal parent) (sym it)));
+        relays = (
+          inboxOf (e .what),
+          (o, ends, inr (inl (subst (λ (x : Option (Sending R)). Is S k w (inboxOf (e .what)) (inboxOf (e .what)) x) (sym se) refl))),
+          λ x reads. (seal, parent, ok-same (sym reads ∙ got .0 .0) ∙ ap (λ (y : Block R). Proposal y seal parent) (sym it)),
+        );
         parent-there = subst (λ (xs : List (Block R)). ParentOn S k w (note .block) xs) (sym (shelf-after e p o bs ends bl))
-          (subst (λ (y : Block R). ParentOn S k w y bs) (sym it) (parent-in-on b parent bs (got .1 .2) there));
+            (subst (λ (y : Block R). ParentOn S k w y bs) (sym it) (parent-in-on b parent bs (got .1 .2) there));
       }
 
   above-lock : (s : State S R) (b : Block R) → acceptable s b ≡ true → s .turn ≡ 0 → atLeast (parentOf b) (s .lock) ≡ true
@@ -107,36 +110,40 @@ module _ {L : ℕ} {R : Type 0} (S : ℕ) (k : Kind L R) (w : Setting) (law : La
   accept-kept e p now run = record {
     slips = λ s bs out q. q;
     noted = λ s bs b seal parent got there slot none q.
-      (notes .noted s bs b seal parent got there slot none (q .0), λ note a n t. absurd (none-some (ap (λ (x : Note R). x .accepted) (some-same n) ∙ t)));
-    accepts = λ s bs note b seal parent got there slot n same able o ends st bl se q.
-      (notes .accepts s bs note b seal parent got there slot n same able o ends st bl se (q .0),
-        λ note' a n' t.
+        (notes .noted s bs b seal parent got there slot none (q .0), λ note a n t. absurd (none-some (ap (λ (x : Note R). x .accepted) (some-same n) ∙ t)));
+    accepts = λ s bs note b seal parent got there slot n same able o ends st bl se q. (
+      notes .accepts s bs note b seal parent got there slot n same able o ends st bl se (q .0),
+      λ note' a n' t.
           let it : acceptedAt (s .now) note ≡ note' = some-same n' in
           let tick : s .now ≡ a = some-same (ap (λ (x : Note R). x .accepted) it ∙ t) in
-          let block : note .block ≡ note' .block = ap (λ (x : Note R). x .block) it in
-          (phase-on (s .phase) (and-parts (isOn (s .phase)) _ able .0),
+          let block : note .block ≡ note' .block = ap (λ (x : Note R). x .block) it in (
+            phase-on (s .phase) (and-parts (isOn (s .phase)) _ able .0),
             was-here (Acceptance S k w (e .who) a (note' .block)) e p
-              (subst (λ (x : ℕ). Acceptance S k w (e .who) x (note' .block) e p) tick (subst (λ (x : Block R). Acceptance S k w (e .who) (s .now) x e p) block
+                (subst (λ (x : ℕ). Acceptance S k w (e .who) x (note' .block) e p) tick (subst (λ (x : Block R). Acceptance S k w (e .who) (s .now) x e p) block
                 (accepting S k w e p s bs note b seal parent got there n same able o ends st bl se (q .0)))),
-            λ first. subst (λ (x : Block R). atLeast (parentOf x) (s .lock) ≡ true) block (above-lock S k w s (note .block) able first)));
+            λ first. subst (λ (x : Block R). atLeast (parentOf x) (s .lock) ≡ true) block (above-lock S k w s (note .block) able first),
+          ),
+    );
     spoils = λ s bs note b slot n differs q. q;
     blames-own = λ s bs q. q;
     keeps-vote = λ s bs i b seal got c q. q;
     keeps-blame = λ s bs row q. q;
-    shelves = λ s c source new o ends high more q.
-      (notes .shelves s c source new o ends high more (q .0),
-        shelve-cases (λ (x : State S R). AcceptedAt S k w (e .who) (e ∷ p) (x .phase) (x .turn) (x .lock) (x .round .note)) c s (λ _. q .1)
-          (λ _. unaccepted S k w (e .who) (e ∷ p) (s .phase) _ (s .lock)) (λ _ _. unaccepted S k w (e .who) (e ∷ p) (s .phase) _ (s .lock)));
+    shelves = λ s c source new o ends high more q. (
+      notes .shelves s c source new o ends high more (q .0),
+      shelve-cases (λ (x : State S R). AcceptedAt S k w (e .who) (e ∷ p) (x .phase) (x .turn) (x .lock) (x .round .note)) c s (λ _. q .1)
+          (λ _. unaccepted S k w (e .who) (e ∷ p) (s .phase) _ (s .lock)) (λ _ _. unaccepted S k w (e .who) (e ∷ p) (s .phase) _ (s .lock)),
+    );
     leaves-view = λ s bs v why low t q. (notes .leaves-view s bs v why low t (q .0), unaccepted S k w (e .who) (e ∷ p) _ _ (s .lock));
     clock-ticks = λ s bs q. q;
     enters = λ s bs since leaving q. (notes .enters s bs since leaving (q .0), entering s _ _ since leaving (q .1));
-    votes-own = λ s bs note on n q.
-      (notes .votes-own s bs note on n (q .0),
-        λ note' a n' t.
+    votes-own = λ s bs note on n q. (
+      notes .votes-own s bs note on n (q .0),
+      λ note' a n' t.
           let it : votedFor note ≡ note' = some-same n' in
           let block : note .block ≡ note' .block = ap (λ (x : Note R). x .block) it in
           let f = q .1 note a n (ap (λ (x : Note R). x .accepted) it ∙ t) in
-          (f .0, subst (λ (x : Block R). Was (Acceptance S k w (e .who) a x) (e ∷ p)) block (f .1), λ first. subst (λ (x : Block R). atLeast (parentOf x) (s .lock) ≡ true) block (f .2 first)));
+          (f .0, subst (λ (x : Block R). Was (Acceptance S k w (e .who) a x) (e ∷ p)) block (f .1), λ first. subst (λ (x : Block R). atLeast (parentOf x) (s .lock) ≡ true) block (f .2 first)),
+    );
     offers-own = λ s bs on fresh room q. q;
   }
     where
@@ -155,8 +162,10 @@ module _ {L : ℕ} {R : Type 0} (S : ℕ) (k : Kind L R) (w : Setting) (law : La
   accepted-fine =
       along S k w law (AcceptInv S k w)
       (λ i. (note-base S k w i, unaccepted S k w i [] On 0 None))
-      (λ i e p s bs q. (lift-note S k w e p (s .phase) (s .view) (s .turn) (blockOf (s .round .note)) (q .0),
-        λ note a n t. let f = q .1 note a n t in (f .0, was-more (Acceptance S k w i a (note .block)) e p (f .1), f .2)))
+      (λ i e p s bs q. (
+        lift-note S k w e p (s .phase) (s .view) (s .turn) (blockOf (s .round .note)) (q .0),
+        λ note a n t. let f = q .1 note a n t in (f .0, was-more (Acceptance S k w i a (note .block)) e p (f .1), f .2),
+      ))
       accept-kept
 
   vote-same : (i : ℕ) (a b : Block R) (seal : List ℕ) → Some (write (Vote i a seal)) ≡ Some (write (Vote i b seal)) → a ≡ b

@@ -93,7 +93,7 @@ module _ {L : ℕ} {R : Type 0} (S : ℕ) (k : Kind L R) (w : Setting) (law : La
       let n : w .terms (e .who) .seats .n ≡ w .n = law .shares-n (e .who) (now .driven .at-sound) in
       let box : inbox ≡ inboxOf (e .what) = ap inboxOf (sym q) in
       let reads : readParts k S (w .n) (inboxOf (e .what)) ≡ Ok (h .0) =
-        subst (λ (xs : List ℕ). readParts k S (w .n) xs ≡ Ok (h .0)) box (subst (λ (j : ℕ). readParts k S j inbox ≡ Ok (h .0)) n (h .1)) in
+      subst (λ (xs : List ℕ). readParts k S (w .n) xs ≡ Ok (h .0)) box (subst (λ (j : ℕ). readParts k S j inbox ≡ Ok (h .0)) n (h .1)) in
       let good : judge (w .accepts) (asked k S (w .n) (w .leader) (h .0)) ≡ Ok tt = subst (λ (j : ℕ). judge (w .accepts) (asked k S j (w .leader) (h .0)) ≡ Ok tt) n (h .2) in
       (h .0, ((reads, good), lawful-from-read k S (w .n) (inboxOf (e .what)) (h .0) (now .driven .in-bytes) reads), h .3)
 
@@ -142,7 +142,7 @@ module _ {L : ℕ} {R : Type 0} (S : ℕ) (k : Kind L R) (w : Setting) (law : La
               let same : i ≡ e .who = sym mine in
               subst (λ (j : ℕ). Inv j (e ∷ p) (state S k w j (e ∷ p)) (shelf S k w j (e ∷ p))) (sym same)
               (keep-call (Inv (e .who) (e ∷ p)) e p (run .0) (keep e p (run .0) (run .1))
-                (subst (λ (j : ℕ). Inv j (e ∷ p) (state S k w j p) (shelf S k w j p)) same l))
+              (subst (λ (j : ℕ). Inv j (e ∷ p) (state S k w j p) (shelf S k w j p)) same l))
           | inr other ↦ subst (λ (d : Desk S R). Inv i (e ∷ p) (d .state) (d .blocks)) (sym (desk-other S k w i e p other)) l
         ]
 
@@ -160,7 +160,7 @@ module _ {L : ℕ} {R : Type 0} (S : ℕ) (k : Kind L R) (w : Setting) (law : La
               let same : i ≡ e .who = sym mine in
               subst (λ (j : ℕ). Inv j (e ∷ p) (state S k w j (e ∷ p)) (shelf S k w j (e ∷ p))) (sym same)
               (lift (e .who) e p (state S k w (e .who) (e ∷ p)) (shelf S k w (e .who) (e ∷ p))
-                (keep-call (Inv (e .who) p) e p (run .0) (keep e p (run .0) (run .1))
-                  (subst (λ (j : ℕ). Inv j p (state S k w j p) (shelf S k w j p)) same q)))
+              (keep-call (Inv (e .who) p) e p (run .0) (keep e p (run .0) (run .1))
+              (subst (λ (j : ℕ). Inv j p (state S k w j p) (shelf S k w j p)) same q)))
           | inr other ↦ subst (λ (d : Desk S R). Inv i (e ∷ p) (d .state) (d .blocks)) (sym (desk-other S k w i e p other)) (lift i e p (state S k w i p) (shelf S k w i p) q)
         ]

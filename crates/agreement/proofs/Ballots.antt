@@ -112,7 +112,7 @@ module _ {L : ℕ} {R : Type 0} (S : ℕ) (k : Kind L R) (w : Setting) (law : La
       let same : note .0 .block ≡ c .block = same-blocks k (note .0 .block) (c .block) (q .0 .lawful (note .0 .block) (ap blockOf (note .1))) fine (note .2) in
       let n : w .terms (e .who) .seats .n ≡ w .n = law .shares-n (e .who) (now .driven .at-sound) in
       let full : countKept (s .round .votes .«by_seat») ≡ quorum (w .n) =
-        eqb-true (countKept (s .round .votes .«by_seat»)) (quorum (w .terms (e .who) .seats .n)) (x .5) ∙ ap quorum n in
+      eqb-true (countKept (s .round .votes .«by_seat»)) (quorum (w .terms (e .who) .seats .n)) (x .5) ∙ ap quorum n in
       let above : unsoundFrom (w .sound) 0 (w .n) < quorum (w .n) = quorum-above S k w law in
       let found = kept-sound (w .sound) (s .round .votes .«by_seat») 0 (w .n) (subst (λ (m : ℕ). unsoundFrom (w .sound) 0 (w .n) < m) (sym full) above) (q .1 .within) in
       let z : 0 + found .0 ≡ found .0 = omega arith in
@@ -125,27 +125,30 @@ module _ {L : ℕ} {R : Type 0} (S : ℕ) (k : Kind L R) (w : Setting) (law : La
   vote-kept e p now run = record {
     slips = λ s bs out q. q;
     noted = λ s bs b seal parent got there slot none q.
-      (notes .noted s bs b seal parent got there slot none (q .0), empty-votes S k w p (s .phase) (Some b) (s .round .votes .«by_seat») (q .1 .noteless-none (ap blockOf none)), q .2);
-    accepts = λ s bs note b seal parent got there slot n same able o ends st bl se q.
-      (notes .accepts s bs note b seal parent got there slot n same able o ends st bl se (q .0),
-        subst (λ (x : Option (Block R)). VotesAt S k w p (s .phase) x (s .round .votes .«by_seat»)) (ap blockOf n) (q .1), q .2);
+        (notes .noted s bs b seal parent got there slot none (q .0), empty-votes S k w p (s .phase) (Some b) (s .round .votes .«by_seat») (q .1 .noteless-none (ap blockOf none)), q .2);
+    accepts = λ s bs note b seal parent got there slot n same able o ends st bl se q. (
+      notes .accepts s bs note b seal parent got there slot n same able o ends st bl se (q .0),
+      subst (λ (x : Option (Block R)). VotesAt S k w p (s .phase) x (s .round .votes .«by_seat»)) (ap blockOf n) (q .1),
+      q .2,
+    );
     spoils = λ s bs note b slot n differs q. q;
     blames-own = λ s bs q. q;
     keeps-vote = λ s bs i b seal got c q. (q .0, counting s i b seal bs got c q, q .2);
     keeps-blame = λ s bs row q. q;
-    shelves = λ s c source new o ends high more q.
-      (notes .shelves s c source new o ends high more (q .0),
-        shelve-cases (λ (x : State S R). VotesAt S k w p (x .phase) (blockOf (x .round .note)) (x .round .votes .«by_seat»)) c s (λ _. q .1)
+    shelves = λ s c source new o ends high more q. (
+      notes .shelves s c source new o ends high more (q .0),
+      shelve-cases (λ (x : State S R). VotesAt S k w p (x .phase) (blockOf (x .round .note)) (x .round .votes .«by_seat»)) c s (λ _. q .1)
           (λ _. empty-votes S k w p (s .phase) None _ (no-seals 15)) (λ _ _. empty-votes S k w p (s .phase) None _ (no-seals 15)),
-        λ b on. elim (on-pushed b (c .block) (shelf S k w (e .who) p) on) [
-          | inl old ↦ q .2 b old
-          | inr same ↦ subst (λ (x : Block R). LawfulBlock k x × Voted S k w x p) same (source-voted e p s (shelf S k w (e .who) p) c now run q source)
-        ]);
+      λ b on. elim (on-pushed b (c .block) (shelf S k w (e .who) p) on) [
+        | inl old ↦ q .2 b old
+        | inr same ↦ subst (λ (x : Block R). LawfulBlock k x × Voted S k w x p) same (source-voted e p s (shelf S k w (e .who) p) c now run q source)
+      ],
+    );
     leaves-view = λ s bs v why low t q. (notes .leaves-view s bs v why low t (q .0), empty-votes S k w p (Leaving (s .now)) None _ (no-seals 15), q .2);
     clock-ticks = λ s bs q. q;
     enters = λ s bs since leaving q. (notes .enters s bs since leaving (q .0), entering s (turnAfter (topTurn (min (s .view + 1) lastView) bs)) since leaving (q .1), q .2);
     votes-own = λ s bs note on n q.
-      (notes .votes-own s bs note on n (q .0), subst (λ (x : Option (Block R)). VotesAt S k w p (s .phase) x (s .round .votes .«by_seat»)) (ap blockOf n) (q .1), q .2);
+        (notes .votes-own s bs note on n (q .0), subst (λ (x : Option (Block R)). VotesAt S k w p (s .phase) x (s .round .votes .«by_seat»)) (ap blockOf n) (q .1), q .2);
     offers-own = λ s bs on fresh room q. q;
   }
     where
@@ -176,9 +179,11 @@ module _ {L : ℕ} {R : Type 0} (S : ℕ) (k : Kind L R) (w : Setting) (law : La
   votes-fine =
       along-before S k w law (VoteInv S k w)
       (λ i. (note-base S k w i, empty-votes S k w [] On None _ (no-seals 15), λ b on. elim on [ ]))
-      (λ i e p s bs q. (lift-note S k w e p (s .phase) (s .view) (s .turn) (blockOf (s .round .note)) (q .0),
+      (λ i e p s bs q. (
+        lift-note S k w e p (s .phase) (s .view) (s .turn) (blockOf (s .round .note)) (q .0),
         lift-votes S k w e p (s .phase) (blockOf (s .round .note)) (s .round .votes .«by_seat») (q .1),
-        λ b on. let f = q .2 b on in (f .0, was-more (λ e p. Sound w (e .who) × VotesFor S k w b e p) e p (f .1))))
+        λ b on. let f = q .2 b on in (f .0, was-more (λ e p. Sound w (e .who) × VotesFor S k w b e p) e p (f .1)),
+      ))
       vote-kept
 
   -- a block on a sound seat's shelf was voted for by a sound seat

@@ -106,11 +106,10 @@ module _ {L S : ℕ} {R : Type 0} (k : Kind L R) (p : Terms) where
   module _ (P : Outcome S R → Type 0) (b : Block R) (o : Outcome S R)
       (stays : slotOpen (o .state) b ≡ false → P o)
       (takes : (note : Note R) (rest : Word) → slotOpen (o .state) b ≡ true → NoteFor k b (o .state .round .note) note → (rest ≡ Noted) ⊎ (rest ≡ o .word) →
-          P (adds o rest None None (withNote (Some note) (o .state))))
+      P (adds o rest None None (withNote (Some note) (o .state))))
       (passes : (note : Note R) → slotOpen (o .state) b ≡ true → NoteFor k b (o .state .round .note) note → acceptable (o .state) (note .block) ≡ true → isSome (note .accepted) ≡ false →
-          P (adds o Accepted (Some relay) None (withNote (Some (acceptedAt (o .state .now) note)) (o .state))))
+      P (adds o Accepted (Some relay) None (withNote (Some (acceptedAt (o .state .now) note)) (o .state))))
       (refuses : (note : Note R) → slotOpen (o .state) b ≡ true → o .state .round .note ≡ Some note → sameBlock k (note .block) b ≡ false → P (clashes p o)) where
-
     accepts-cases : (note : Note R) (rest : Word) → slotOpen (o .state) b ≡ true → NoteFor k b (o .state .round .note) note → (rest ≡ Noted) ⊎ (rest ≡ o .word) → P (accepts o rest note)
     accepts-cases note rest slot fit word =
         cond-both (acceptable (o .state) (note .block) && not (isSome (note .accepted))) _ _ P
@@ -184,14 +183,14 @@ module _ {L S : ℕ} {R : Type 0} (k : Kind L R) (p : Terms) where
     pub vote-cases : (i : ℕ) (b : Block R) (seal : List ℕ) → vote k p s bs cells i b seal ≡ Ok o → P (idle s bs) →
         (countable k s i b ≡ true → P (counted (withVotes (addSeal (s .round .votes) i seal) s) bs)) →
         (countable k s i b ≡ true → quorate p (addSeal (s .round .votes) i seal) ≡ true →
-            judgeIn k (withVotes (addSeal (s .round .votes) i seal) s) bs cells b ≡ Ok New →
-            P (taken (withVotes (addSeal (s .round .votes) i seal) s) bs (certificateOf b (addSeal (s .round .votes) i seal)) (write (Certified (certificateOf b (addSeal (s .round .votes) i seal)))) New)) → P o
+        judgeIn k (withVotes (addSeal (s .round .votes) i seal) s) bs cells b ≡ Ok New →
+        P (taken (withVotes (addSeal (s .round .votes) i seal) s) bs (certificateOf b (addSeal (s .round .votes) i seal)) (write (Certified (certificateOf b (addSeal (s .round .votes) i seal)))) New)) → P o
     vote-cases i b seal e g h t =
         cond-ok (countable k s i b) _ _ o (P o) e
         (λ c f. cond-ok (quorate p (addSeal (s .round .votes) i seal)) _ _ o (P o) f
-          (λ q z. verdict-cases P (withVotes (addSeal (s .round .votes) i seal) s) bs cells o
-            (completed (withVotes (addSeal (s .round .votes) i seal) s) bs (certificateOf b (addSeal (s .round .votes) i seal))) b z (λ _. h c) (λ n. t c q n))
-          (λ _ z. subst P (ok-same z) (h c)))
+        (λ q z. verdict-cases P (withVotes (addSeal (s .round .votes) i seal) s) bs cells o
+        (completed (withVotes (addSeal (s .round .votes) i seal) s) bs (certificateOf b (addSeal (s .round .votes) i seal))) b z (λ _. h c) (λ n. t c q n))
+        (λ _ z. subst P (ok-same z) (h c)))
         (λ _ z. subst P (ok-same z) g)
 
   -- an offer that was taken
@@ -200,8 +199,8 @@ module _ {L S : ℕ} {R : Type 0} (k : Kind L R) (p : Terms) where
   offered-so leader s bs content room o e =
       let f = next-ok (readContent k content) _ o (guarded-ok s room _ o e) in
       let g = guards (not (eqb (leader (s .view)) (p .own))) (not (isOn (s .phase))) (s .spoiled) (s .round .offered)
-          (ltb lastTurn (s .turn) || ltb lastHeight (nextHeight (s .best))) (tooSoon p s) (canCarry (s .view) (s .turn) (s .best))
-          NotLeader OfferLeaving OfferSpoiled OfferedAlready NoPlaceLeft OfferTooSoon NoLawfulParent (offers p s bs (f .0)) o (f .2) in
+      (ltb lastTurn (s .turn) || ltb lastHeight (nextHeight (s .best))) (tooSoon p s) (canCarry (s .view) (s .turn) (s .best))
+      NotLeader OfferLeaving OfferSpoiled OfferedAlready NoPlaceLeft OfferTooSoon NoLawfulParent (offers p s bs (f .0)) o (f .2) in
       (f .0, sym (g .4), off (isOn (s .phase)) (g .0), g .2, g .3, g .1)
     where
       off : (b : Bool) → not b ≡ false → b ≡ true
@@ -217,10 +216,10 @@ module _ {S : ℕ} {R : Type 0} (p : Terms) where
   module _ (P : Outcome S R → Type 0) (s : State S R) (bs : List (Block R))
       (waits : P (idle (withNow (s .now + 1) s) bs))
       (enters : (since : ℕ) → s .phase ≡ Leaving since → leb (2 * p .delta + 1) (s .now + 1 - since) ≡ true →
-          P (entered p (enter (min (s .view + 1) lastView) (turnAfter (topTurn (min (s .view + 1) lastView) bs)) (withNow (s .now + 1) s)) bs))
+      P (entered p (enter (min (s .view + 1) lastView) (turnAfter (topTurn (min (s .view + 1) lastView) bs)) (withNow (s .now + 1) s)) bs))
       (sits : s .phase ≡ On → P (blames p Idle None (withNow (s .now + 1) s) bs))
       (votes : (note : Note R) → s .phase ≡ On → s .round .note ≡ Some note → voteDue p (withNow (s .now + 1) s) note ≡ true →
-          P (blames p Voted (Some (write (Vote (p .own) (note .block) (zeroSeal S)))) (withNote (Some (votedFor note)) (withNow (s .now + 1) s)) bs)) where
+      P (blames p Voted (Some (write (Vote (p .own) (note .block) (zeroSeal S)))) (withNote (Some (votedFor note)) (withNow (s .now + 1) s)) bs)) where
     on-cases : (old : Option (Note R)) → s .round .note ≡ old → s .phase ≡ On → P (onTick p old (withNow (s .now + 1) s) bs)
     on-cases None e on = sits on
     on-cases (Some note) e on =

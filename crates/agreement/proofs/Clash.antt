@@ -96,10 +96,11 @@ module _ {L : ℕ} {R : Type 0} (S : ℕ) (k : Kind L R) (w : Setting) (law : La
     shelves = λ s c source new o ends high more q. (notes .shelves s c source new o ends high more (q .0), past-shelve r c s low (q .1));
     leaves-view = λ s bs v why small t q. (notes .leaves-view s bs v why small t (q .0), past-leave r s v (leave-above (s .phase) (s .view) v t) (q .1));
     clock-ticks = λ s bs q. q;
-    enters = λ s bs since leaving q.
-      (notes .enters s bs since leaving (q .0),
-        past-enter r s (min (s .view + 1) lastView) (turnAfter (topTurn (min (s .view + 1) lastView) bs)) (let l : s .view < 65535 = q .0 .leaving-low since leaving in omega arith)
-        (ap (λ (f : Phase). cond (isOn f) (2 * s .view) (2 * s .view + 1)) leaving) (q .1));
+    enters = λ s bs since leaving q. (
+      notes .enters s bs since leaving (q .0),
+      past-enter r s (min (s .view + 1) lastView) (turnAfter (topTurn (min (s .view + 1) lastView) bs)) (let l : s .view < 65535 = q .0 .leaving-low since leaving in omega arith)
+          (ap (λ (f : Phase). cond (isOn f) (2 * s .view) (2 * s .view + 1)) leaving) (q .1),
+    );
     votes-own = λ s bs note on n q. (notes .votes-own s bs note on n (q .0), q .1);
     offers-own = λ s bs on fresh room q. (q .0, past-offer r s (q .1));
   }
@@ -114,7 +115,7 @@ module _ {L : ℕ} {R : Type 0} (S : ℕ) (k : Kind L R) (w : Setting) (law : La
             let same : i ≡ e .who = sym mine in
             subst (λ (j : ℕ). OfferPast r (state S k w j (e ∷ p))) (sym same)
             (keep-call S k w law (λ s bs. NoteInv S k w (e .who) p s bs × OfferPast r s) e p (run .0) (past-kept r e p low (run .0))
-              (note-fine S k w law (e .who) p (run .0 .driven .at-sound) (run .1), subst (λ (j : ℕ). OfferPast r (state S k w j p)) same q) .1)
+            (note-fine S k w law (e .who) p (run .0 .driven .at-sound) (run .1), subst (λ (j : ℕ). OfferPast r (state S k w j p)) same q) .1)
         | inr other ↦ subst (λ (d : Desk S R). OfferPast r (d .state)) (sym (desk-other S k w i e p other)) q
       ]
 
@@ -289,10 +290,10 @@ module _ {L : ℕ} {R : Type 0} (S : ℕ) (k : Kind L R) (w : Setting) (law : La
           (λ none ends z. proposed-clash e p b (idle (d .state) (d .blocks)) fine idle-clash z)
           (λ c some j ends z. proposed-clash e p b (idle (d .state) (d .blocks)) fine idle-clash z)
           (λ c some j ends z.
-            let x : Outcome S R = taken (d .state) (d .blocks) c (write (Certified c)) New in
-            let l = proposed-leaves k t b x in
-            proposed-clash e p b x
-            (notes .shelves (d .state) c (inr (inl (b, seal, subst (λ y. Handed S k w e (Proposal b seal y)) some got))) j (proposed k t b x) ends (l .0) (l .1) fine) certified-clash z)
+          let x : Outcome S R = taken (d .state) (d .blocks) c (write (Certified c)) New in
+          let l = proposed-leaves k t b x in
+          proposed-clash e p b x
+          (notes .shelves (d .state) c (inr (inl (b, seal, subst (λ y. Handed S k w e (Proposal b seal y)) some got))) j (proposed k t b x) ends (l .0) (l .1) fine) certified-clash z)
           r word
 
       silent : inboxOf (e .what) ≡ [] → Handed S k w e (Proposal b seal parent) × Clashing e p b
@@ -317,7 +318,7 @@ module _ {L : ℕ} {R : Type 0} (S : ℕ) (k : Kind L R) (w : Setting) (law : La
       let view : c .note .rank .view ≡ b .rank .view = ap (λ (r : Rank). r .view) (c .rank) in
       let lead : w .leader (c .note .rank .view) ≡ w .leader (b .rank .view) = ap (w .leader) view in
       let said-note : Said S k w (w .leader (b .rank .view)) (proposalStatement k (c .note)) p =
-          subst (λ (j : ℕ). Said S k w j (proposalStatement k (c .note)) p) lead (c .said (subst (λ (j : ℕ). Sound w j) (sym lead) sound)) in
+      subst (λ (j : ℕ). Said S k w j (proposalStatement k (c .note)) p) lead (c .said (subst (λ (j : ℕ). Sound w j) (sym lead) sound)) in
       let said-new : Said S k w (w .leader (b .rank .view)) (proposalStatement k b) p = proposal-said S k w e p b (x .0) (x .1 .0) (run .0) (f .0) sound in
       let same : c .note ≡ b = one-proposal p (w .leader (b .rank .view)) (c .note) b (run .1) (c .lawful) (f .0 .1 .0) (c .rank) said-note said-new in
       true-false (sym (subst (λ (y : Block R). sameBlock k (c .note) y ≡ true) same (same-self k (c .note))) ∙ c .other)

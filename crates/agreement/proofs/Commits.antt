@@ -97,17 +97,19 @@ module _ {L : ℕ} {R : Type 0} (S : ℕ) (k : Kind L R) (w : Setting) (law : La
     keeps-vote = λ s bs i b seal got c q. q;
     keeps-blame = λ s bs row q. q;
     shelves = λ s c source new o ends high more q.
-      (notes .shelves s c source new o ends high more (q .0), shelving s c source o ends high more (q .1));
-    leaves-view = λ s bs v why low t q.
-      (notes .leaves-view s bs v why low t (q .0),
-        raise-only S k w (e .who) (e ∷ p) (s .committed) (stage s) (2 * v + 1) bs (let l : stage s < 2 * v + 1 = leave-above (s .phase) (s .view) v t in omega arith) (q .1));
+        (notes .shelves s c source new o ends high more (q .0), shelving s c source o ends high more (q .1));
+    leaves-view = λ s bs v why low t q. (
+      notes .leaves-view s bs v why low t (q .0),
+      raise-only S k w (e .who) (e ∷ p) (s .committed) (stage s) (2 * v + 1) bs (let l : stage s < 2 * v + 1 = leave-above (s .phase) (s .view) v t in omega arith) (q .1),
+    );
     clock-ticks = λ s bs q. q;
-    enters = λ s bs since leaving q.
-      (notes .enters s bs since leaving (q .0),
-        raise-only S k w (e .who) (e ∷ p) (s .committed) (stage s) (2 * min (s .view + 1) lastView) bs
-        (let l : s .view < 65535 = q .0 .leaving-low since leaving in
+    enters = λ s bs since leaving q. (
+      notes .enters s bs since leaving (q .0),
+      raise-only S k w (e .who) (e ∷ p) (s .committed) (stage s) (2 * min (s .view + 1) lastView) bs
+          (let l : s .view < 65535 = q .0 .leaving-low since leaving in
           let z : stage s ≡ 2 * s .view + 1 = ap (λ (f : Phase). cond (isOn f) (2 * s .view) (2 * s .view + 1)) leaving in
-          omega arith) (q .1));
+          omega arith) (q .1),
+    );
     votes-own = λ s bs note on n q. (notes .votes-own s bs note on n (q .0), q .1);
     offers-own = λ s bs on fresh room q. q;
   }
@@ -126,16 +128,16 @@ module _ {L : ℕ} {R : Type 0} (S : ℕ) (k : Kind L R) (w : Setting) (law : La
           (λ _. raise S k w (e .who) (e ∷ p) (s .committed) (stage s) (stage s) bs (c .block ∷ []) (omega arith) q)
           (λ _. raise S k w (e .who) (e ∷ p) (s .committed) (stage s) (stage s) bs (c .block ∷ []) (omega arith) q)
           (λ at does b it.
-            let same : c .block ≡ b = some-same it in
-            let fine : LawfulBlock k (c .block) = source-lawful S k w e p s c source in
-            let top : 1 ≤ c .block .height = lawful-high (c .block .rank .view) (c .block .rank .turn) (c .block .height) (c .block .parent .view) (c .block .parent .turn) (fine .numbers) in
-            let tall : heightOf s (c .block) ≡ c .block .height = ap (λ (x : Bool). cond x (c .block .height) 0) does in
-            let pos : 0 < o .height = omega arith in
-            let on = and-parts (isOn (s .phase)) _ at in
-            let view : s .view ≡ c .block .rank .view = eqb-true (s .view) (c .block .rank .view) (on .1) in
-            let level : stage s ≡ 2 * s .view = ap (λ (x : Bool). cond x (2 * s .view) (2 * s .view + 1)) (on .0) in
-            subst (λ (x : Block R). Commits S k w (e .who) x (e ∷ p) × OnShelf x (bs ++ (c .block ∷ [])) × (2 * x .rank .view ≤ stage s)) same
-            (inl (refl, ((o, ends, pos), (o, ends, more))), on-last (c .block) bs, omega arith))
+          let same : c .block ≡ b = some-same it in
+          let fine : LawfulBlock k (c .block) = source-lawful S k w e p s c source in
+          let top : 1 ≤ c .block .height = lawful-high (c .block .rank .view) (c .block .rank .turn) (c .block .height) (c .block .parent .view) (c .block .parent .turn) (fine .numbers) in
+          let tall : heightOf s (c .block) ≡ c .block .height = ap (λ (x : Bool). cond x (c .block .height) 0) does in
+          let pos : 0 < o .height = omega arith in
+          let on = and-parts (isOn (s .phase)) _ at in
+          let view : s .view ≡ c .block .rank .view = eqb-true (s .view) (c .block .rank .view) (on .1) in
+          let level : stage s ≡ 2 * s .view = ap (λ (x : Bool). cond x (2 * s .view) (2 * s .view + 1)) (on .0) in
+          subst (λ (x : Block R). Commits S k w (e .who) x (e ∷ p) × OnShelf x (bs ++ (c .block ∷ [])) × (2 * x .rank .view ≤ stage s)) same
+          (inl (refl, ((o, ends, pos), (o, ends, more))), on-last (c .block) bs, omega arith))
 
   pub commits-fine : (i : ℕ) (h : History) → Sound w i → Run S k w h → CommitInv S k w i h (state S k w i h) (shelf S k w i h)
   commits-fine =
@@ -155,14 +157,15 @@ module _ {L : ℕ} {R : Type 0} (S : ℕ) (k : Kind L R) (w : Setting) (law : La
       let s : State S R = state S k w i h in
       let level : stage s ≡ 2 * s .view = ap (λ (x : Phase). cond (isOn x) (2 * s .view) (2 * s .view + 1)) (on .0) in
       let low : 2 * c .rank .view ≤ stage s = f .2 in
-      let view : s .view ≡ b .rank .view = on .1 in
-      (f .1, elim (cases-lt (c .rank .view) (b .rank .view)) [
-        | inl less ↦ or-left (ltb (c .rank .view) (b .rank .view)) _ (lt-ltb (c .rank .view) (b .rank .view) less)
-        | inr more ↦
-            let same : c .rank .view ≡ b .rank .view = omega arith in
-            let under : c .rank .turn < s .turn = turns-below S k w law i (b .rank .view) h c sound run on (f .1) same in
-            or-right (ltb (c .rank .view) (b .rank .view)) _
-            (and-from (eqb (c .rank .view) (b .rank .view)) _ (eq-eqb (c .rank .view) (b .rank .view) same) (lt-ltb (c .rank .turn) (b .rank .turn)
+      let view : s .view ≡ b .rank .view = on .1 in (
+        f .1,
+        elim (cases-lt (c .rank .view) (b .rank .view)) [
+          | inl less ↦ or-left (ltb (c .rank .view) (b .rank .view)) _ (lt-ltb (c .rank .view) (b .rank .view) less)
+          | inr more ↦
+              let same : c .rank .view ≡ b .rank .view = omega arith in
+              let under : c .rank .turn < s .turn = turns-below S k w law i (b .rank .view) h c sound run on (f .1) same in
+              or-right (ltb (c .rank .view) (b .rank .view)) _
+              (and-from (eqb (c .rank .view) (b .rank .view)) _ (eq-eqb (c .rank .view) (b .rank .view) same) (lt-ltb (c .rank .turn) (b .rank .turn)
               (elim (cases-lt (b .rank .turn) (s .turn)) [
                 | inl early ↦
                     let x = turns-there S k w law i (b .rank .view) (b .rank .turn) h sound run on early in
@@ -171,7 +174,8 @@ module _ {L : ℕ} {R : Type 0} (S : ℕ) (k : Kind L R) (w : Setting) (law : La
                     absurd (none-some (sym free ∙ y .1))
                 | inr late ↦ omega arith
               ])))
-        ])
+        ],
+      )
 
   -- a call whose answer has a height took in a certificate that commits
   pub record CommittedBy (e : Event) (p : History) (o : Outcome S R) : Type 0 where
@@ -196,8 +200,8 @@ module _ {L : ℕ} {R : Type 0} (S : ℕ) (k : Kind L R) (w : Setting) (law : La
       takes s c x phase view high more pos =
           by-test (commits s (c .block))
           (λ does.
-            let on = and-parts (isOn (s .phase)) _ (and-parts (here s (c .block)) _ does .0) in
-            record { block = c .block; on = ap isOn (sym phase) ∙ on .0; view = ap (λ (v : ℕ). eqb v (c .block .rank .view)) (sym view) ∙ on .1; blocks = more })
+          let on = and-parts (isOn (s .phase)) _ (and-parts (here s (c .block)) _ does .0) in
+          record { block = c .block; on = ap isOn (sym phase) ∙ on .0; view = ap (λ (v : ℕ). eqb v (c .block .rank .view)) (sym view) ∙ on .1; blocks = more })
           (λ none. let z : heightOf s (c .block) ≡ 0 = ap (λ (b : Bool). cond b (c .block .height) 0) none in absurd (omega arith))
 
       flat : (x : Outcome S R) → x .height ≡ 0 → Tall x

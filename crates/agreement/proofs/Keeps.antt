@@ -73,7 +73,7 @@ shelve-cases P c s away stays commit = by (here s (c .block)) (not (s .spoiled))
   where
     by : (h n : Bool) → here s (c .block) ≡ h → not (s .spoiled) ≡ n →
         P (cond (h && n) (withCommitted (c .block) (cond h (turnRises (min (s .turn + 1) 4294967295) (withBest (better (s .best) c) s)) (withBest (better (s .best) c) s)))
-            (cond h (turnRises (min (s .turn + 1) 4294967295) (withBest (better (s .best) c) s)) (withBest (better (s .best) c) s)))
+        (cond h (turnRises (min (s .turn + 1) 4294967295) (withBest (better (s .best) c) s)) (withBest (better (s .best) c) s)))
     by true true e f = commit e (and-from (here s (c .block)) (not (s .spoiled)) e f)
     by true false e f = stays e
     by false n e f = away e
@@ -142,14 +142,14 @@ module _ {L S : ℕ} {R : Type 0} (k : Kind L R) (p : Terms) (cells : ℕ) (Got 
         proposed-cases k p (λ x. x ≡ proposed k p b o → Q (x .state) (x .blocks)) b o (λ _ _. q)
         (λ note rest slot fit _ _. taking o b seal parent note got there slot fit q)
         (λ note slot fit able fresh e.
-          keep .accepts (withNote (Some note) (o .state)) (o .blocks) note b seal parent got there (slot-noted (o .state) (Some note) b slot) refl (fits-block b (o .state .round .note) note fit) able
-          (adds o _ (Some relay) None (withNote (Some (acceptedAt (o .state .now) note)) (o .state))) (subst Ends (sym e) ends) refl refl refl
-          (taking o b seal parent note got there slot fit q))
+        keep .accepts (withNote (Some note) (o .state)) (o .blocks) note b seal parent got there (slot-noted (o .state) (Some note) b slot) refl (fits-block b (o .state .round .note) note fit) able
+        (adds o _ (Some relay) None (withNote (Some (acceptedAt (o .state .now) note)) (o .state))) (subst Ends (sym e) ends) refl refl refl
+        (taking o b seal parent note got there slot fit q))
         (λ note slot e differs _.
-          cond-both (isOn (o .state .phase) && not (o .state .blamed)) (adds o Clash (Some relay) (Some (ownBlame p (o .state))) (withBlamed true (withSpoiled true (o .state)))) (adds o Clash (Some relay) None (withSpoiled true (o .state)))
-          (λ (x : Outcome S R). Q (x .state) (x .blocks))
-          (λ _. keep .blames-own (withSpoiled true (o .state)) (o .blocks) (keep .spoils (o .state) (o .blocks) note b slot e differs q))
-          (λ _. keep .spoils (o .state) (o .blocks) note b slot e differs q))
+        cond-both (isOn (o .state .phase) && not (o .state .blamed)) (adds o Clash (Some relay) (Some (ownBlame p (o .state))) (withBlamed true (withSpoiled true (o .state)))) (adds o Clash (Some relay) None (withSpoiled true (o .state)))
+        (λ (x : Outcome S R). Q (x .state) (x .blocks))
+        (λ _. keep .blames-own (withSpoiled true (o .state)) (o .blocks) (keep .spoils (o .state) (o .blocks) note b slot e differs q))
+        (λ _. keep .spoils (o .state) (o .blocks) note b slot e differs q))
         refl
 
     -- what holds before a call that hands a message in holds after it
@@ -159,26 +159,26 @@ module _ {L S : ℕ} {R : Type 0} (k : Kind L R) (p : Terms) (cells : ℕ) (Got 
         (λ none. keep-proposed (idle s before) b seal parent got (subst (λ x. ParentIn x before) (sym none) tt) (λ _. q))
         (λ c some j. keep-proposed (idle s before) b seal parent got (subst (λ x. ParentIn x before) (sym some) (parent-known k s before cells c j)) (λ _. q))
         (λ c some j. keep-proposed (taken s before c (write (Certified c)) New) b seal parent got (subst (λ x. ParentIn x (before ++ (c .block ∷ []))) (sym some) (parent-new before c))
-          (λ end. let l = proposed-leaves k p b (taken s before c (write (Certified c)) New) in
-            keep .shelves s c (inr (inl (b, seal, subst (λ x. Got (Proposal b seal x)) some got))) j (proposed k p b (taken s before c (write (Certified c)) New)) end (l .0) (l .1) q))
+        (λ end. let l = proposed-leaves k p b (taken s before c (write (Certified c)) New) in
+        keep .shelves s c (inr (inl (b, seal, subst (λ x. Got (Proposal b seal x)) some got))) j (proposed k p b (taken s before c (write (Certified c)) New)) end (l .0) (l .1) q))
         ends
     keep-hand s (Vote i b seal) o got e ends q =
         vote-cases k p Held s before cells o i b seal e (λ _. q)
         (λ c _. keep .keeps-vote s before i b seal got c q)
         (λ c full j end.
-          let on = and-parts (isOn (s .phase)) _ c in
-          let note = and-parts (isNote k (s .round .note) b) _ (on .1) in
-          let t : State S R = withVotes (addSeal (s .round .votes) i seal) s in
-          let cert : Certificate R (List ℕ) = certificateOf b (addSeal (s .round .votes) i seal) in
-          keep .shelves t cert (inr (inr (i, seal, got, on .0, note .0, full))) j
-          (taken t before cert (write (Certified cert)) New) end refl refl (keep .keeps-vote s before i b seal got c q))
+        let on = and-parts (isOn (s .phase)) _ c in
+        let note = and-parts (isNote k (s .round .note) b) _ (on .1) in
+        let t : State S R = withVotes (addSeal (s .round .votes) i seal) s in
+        let cert : Certificate R (List ℕ) = certificateOf b (addSeal (s .round .votes) i seal) in
+        keep .shelves t cert (inr (inr (i, seal, got, on .0, note .0, full))) j
+        (taken t before cert (write (Certified cert)) New) end refl refl (keep .keeps-vote s before i b seal got c q))
         ends
     keep-hand s (Blame i view seal) o got e ends q =
         blame-cases k p Held s before cells o i view seal e (λ _. q)
         (λ _ _ _ _. keep .keeps-blame s before (addSeal (s .blames) i seal) q)
         (λ low on at _.
-          keep .leaves-view (withBlames (addSeal (s .blames) i seal) s) before view (inr (eqb-true (s .view) view at)) low
-          (or-right (ltb (s .view) view) _ (and-from (isOn (s .phase)) (eqb (s .view) view) on at)) (keep .keeps-blame s before (addSeal (s .blames) i seal) q))
+        keep .leaves-view (withBlames (addSeal (s .blames) i seal) s) before view (inr (eqb-true (s .view) view at)) low
+        (or-right (ltb (s .view) view) _ (and-from (isOn (s .phase)) (eqb (s .view) view) on at)) (keep .keeps-blame s before (addSeal (s .blames) i seal) q))
         ends
     keep-hand s (Certified c) o got e ends q =
         taken-cases k p Held s before cells o c relay e (λ _ _. q)
@@ -193,11 +193,11 @@ module _ {L S : ℕ} {R : Type 0} (k : Kind L R) (p : Terms) (cells : ℕ) (Got 
         let qt : Q t bs = keep .clock-ticks s bs q in
         tick-cases p (λ (x : Outcome S R). Q (x .state) (x .blocks)) s bs qt
         (λ since leaving _.
-          let n : State S R = enter (min (s .view + 1) lastView) (turnAfter (topTurn (min (s .view + 1) lastView) bs)) t in
-          let qn : Q n bs = keep .enters t bs since leaving qt in
-          cond-both (n .spoiled) _ _ (λ (x : Outcome S R). Q (x .state) (x .blocks)) (λ _. keep .blames-own n bs qn) (λ _. qn))
+        let n : State S R = enter (min (s .view + 1) lastView) (turnAfter (topTurn (min (s .view + 1) lastView) bs)) t in
+        let qn : Q n bs = keep .enters t bs since leaving qt in
+        cond-both (n .spoiled) _ _ (λ (x : Outcome S R). Q (x .state) (x .blocks)) (λ _. keep .blames-own n bs qn) (λ _. qn))
         (λ _. cond-both _ _ _ (λ (x : Outcome S R). Q (x .state) (x .blocks)) (λ _. keep .blames-own t bs qt) (λ _. qt))
         (λ note on e _.
-          let v : State S R = withNote (Some (votedFor note)) t in
-          let qv : Q v bs = keep .votes-own t bs note on e qt in
-          cond-both _ _ _ (λ (x : Outcome S R). Q (x .state) (x .blocks)) (λ _. keep .blames-own v bs qv) (λ _. qv))
+        let v : State S R = withNote (Some (votedFor note)) t in
+        let qv : Q v bs = keep .votes-own t bs note on e qt in
+        cond-both _ _ _ (λ (x : Outcome S R). Q (x .state) (x .blocks)) (λ _. keep .blames-own v bs qv) (λ _. qv))

@@ -91,7 +91,7 @@ module _ {L : ℕ} {R : Type 0} (S : ℕ) (k : Kind L R) (w : Setting) where
         lawful = λ c t. subst (λ (x : Block R). LawfulBlock k x) (some-same t) (got .1 .0);
         placed = λ c t. subst (λ (x : Block R). Placed (s .phase) (s .view) (s .turn) x) (some-same t) at;
         proposed = λ c t. subst (λ (x : Block R). Sound w (w .leader (x .rank .view)) → Said S k w (w .leader (x .rank .view)) (proposalStatement k x) g) (some-same t)
-          (λ sound. up (w .leader (b .rank .view)) (proposalStatement k b) (proposal-said e p b seal parent now got sound));
+            (λ sound. up (w .leader (b .rank .view)) (proposalStatement k b) (proposal-said e p b seal parent now got sound));
       }
 
   enter-note : (h : History) (since view turn before : ℕ) (nb : Option (Block R)) → (view ≡ before + 1) → NoteAt h (Leaving since) before 0 nb → turn ≡ 0 → NoteAt h On view turn nb
@@ -123,8 +123,8 @@ module _ {L : ℕ} {R : Type 0} (S : ℕ) (k : Kind L R) (w : Setting) (law : La
     keeps-vote = λ s bs i b seal got c q. q;
     keeps-blame = λ s bs row q. q;
     shelves = λ s c source new o ends high more q.
-      shelve-cases (λ (x : State S R). NoteInv S k w (e .who) g x (shelf S k w (e .who) p)) c s (λ _. q)
-      (λ here. bare-note S k w g (s .phase) (s .view) _ (q .low) (q .leaving-low)) (λ here _. bare-note S k w g (s .phase) (s .view) _ (q .low) (q .leaving-low));
+        shelve-cases (λ (x : State S R). NoteInv S k w (e .who) g x (shelf S k w (e .who) p)) c s (λ _. q)
+        (λ here. bare-note S k w g (s .phase) (s .view) _ (q .low) (q .leaving-low)) (λ here _. bare-note S k w g (s .phase) (s .view) _ (q .low) (q .leaving-low));
     leaves-view = λ s bs v why low t q. bare-note S k w g (Leaving (s .now)) v (s .turn) (at-most s v why low q) (λ _ _. under s v why low q);
     clock-ticks = λ s bs q. q;
     enters = λ s bs since leaving q. entering s bs since leaving q;
@@ -155,7 +155,7 @@ module _ {L : ℕ} {R : Type 0} (S : ℕ) (k : Kind L R) (w : Setting) (law : La
                 (enter-note S k w g since v t (s .view) (blockOf (s .round .note)) up (leaving-turn S k w g (s .phase) since (s .view) (s .turn) 0 (blockOf (s .round .note)) leaving q) (eqb-true t 0 z))
             | inr z ↦ subst (λ (x : Bool). NoteAt S k w g On v t (blockOf (cond x (s .round) (record { note = None; votes = s .round .votes; offered = s .round .offered }) .note))) (sym z)
                 (bare-note S k w g On v t (let l : s .view < 65535 = q .leaving-low since leaving in omega arith) (λ u x. absurd (leaving-on u x)))
-            ]
+          ]
 
   -- along every run a seat's note is such
   pub note-fine : (i : ℕ) (h : History) → Sound w i → Run S k w h → NoteInv S k w i h (state S k w i h) (shelf S k w i h)

@@ -46,11 +46,11 @@ pub leave-above : (f : Phase) (view v : ℕ) → (ltb view v || (isOn f && eqb v
 leave-above On view v t = elim (or-cases (ltb view v) (eqb view v) t) [
   | inl q ↦ let l : view < v = ltb-true view v q in omega arith
   | inr q ↦ let l : view ≡ v = eqb-true view v q in omega arith
-  ]
+]
 leave-above (Leaving since) view v t = elim (or-cases (ltb view v) false t) [
   | inl q ↦ let l : view < v = ltb-true view v q in omega arith
   | inr q ↦ absurd (true-false (sym q))
-  ]
+]
 
 module _ {S : ℕ} {R : Type 0} (b : Block R) where
   primed-note : (s : State S R) (new : Option (Note R)) → (NoteIs b (s .round .note) → NoteIs b new) → Primed b s → Primed b (withNote new s)
@@ -126,9 +126,9 @@ module _ {L : ℕ} {R : Type 0} (S : ℕ) (k : Kind L R) (w : Setting) (law : La
   primed-kept b e p lawful now = record {
     slips = λ s bs out q. q;
     noted = λ s bs c seal parent got there slot none q.
-      (notes .noted s bs c seal parent got there slot none (q .0), primed-note b s (Some (freshNote c)) (λ n. absurd (note-none b (s .round .note) none n)) (q .1));
+        (notes .noted s bs c seal parent got there slot none (q .0), primed-note b s (Some (freshNote c)) (λ n. absurd (note-none b (s .round .note) none n)) (q .1));
     accepts = λ s bs note c seal parent got there slot n same able o ends st bl se q.
-      (notes .accepts s bs note c seal parent got there slot n same able o ends st bl se (q .0), primed-note b s (Some (acceptedAt (s .now) note)) (λ x. note-is b (s .round .note) note n x) (q .1));
+        (notes .accepts s bs note c seal parent got there slot n same able o ends st bl se (q .0), primed-note b s (Some (acceptedAt (s .now) note)) (λ x. note-is b (s .round .note) note n x) (q .1));
     spoils = λ s bs note c slot n differs q. (q .0, primed-spoilt b s (q .1));
     blames-own = λ s bs q. q;
     keeps-vote = λ s bs i c seal got t q. q;
@@ -136,10 +136,11 @@ module _ {L : ℕ} {R : Type 0} (S : ℕ) (k : Kind L R) (w : Setting) (law : La
     shelves = λ s c source new o ends high more q. (notes .shelves s c source new o ends high more (q .0), primed-shelve b c s (lawful .turn) (q .1));
     leaves-view = λ s bs v why low t q. (notes .leaves-view s bs v why low t (q .0), primed-leave b s v t (q .1));
     clock-ticks = λ s bs q. q;
-    enters = λ s bs since leaving q.
-      (notes .enters s bs since leaving (q .0),
-        primed-enter b s since (min (s .view + 1) lastView) (turnAfter (topTurn (min (s .view + 1) lastView) bs)) leaving
-        (let l : s .view < 65535 = q .0 .leaving-low since leaving in omega arith) (q .1));
+    enters = λ s bs since leaving q. (
+      notes .enters s bs since leaving (q .0),
+      primed-enter b s since (min (s .view + 1) lastView) (turnAfter (topTurn (min (s .view + 1) lastView) bs)) leaving
+          (let l : s .view < 65535 = q .0 .leaving-low since leaving in omega arith) (q .1),
+    );
     votes-own = λ s bs note on n q. (notes .votes-own s bs note on n (q .0), primed-note b s (Some (votedFor note)) (λ x. note-is b (s .round .note) note n x) (q .1));
     offers-own = λ s bs on fresh room q. q;
   }
@@ -155,7 +156,7 @@ module _ {L : ℕ} {R : Type 0} (S : ℕ) (k : Kind L R) (w : Setting) (law : La
             let same : i ≡ e .who = sym mine in
             subst (λ (j : ℕ). Primed b (state S k w j (e ∷ p))) (sym same)
             (keep-call S k w law (λ s bs. NoteInv S k w (e .who) p s bs × Primed b s) e p (run .0) (primed-kept b e p lawful (run .0))
-              (note-fine S k w law (e .who) p (run .0 .driven .at-sound) (run .1), subst (λ (j : ℕ). Primed b (state S k w j p)) same q) .1)
+            (note-fine S k w law (e .who) p (run .0 .driven .at-sound) (run .1), subst (λ (j : ℕ). Primed b (state S k w j p)) same q) .1)
         | inr other ↦ subst (λ (d : Desk S R). Primed b (d .state)) (sym (desk-other S k w i e p other)) q
       ]
 

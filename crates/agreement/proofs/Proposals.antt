@@ -73,7 +73,7 @@ module _ {S : ℕ} {R : Type 0} (b : Block R) where
         let v : s .view + 1 ≡ b .rank .view = eqb-true (s .view + 1) (b .rank .view) (q .0) in
         let l : stage s ≡ 2 * s .view + 1 = o .2 in
         inr (inr (inr (omega arith, (eqb-true (b .rank .turn) 0 (q .1), how))))
-    ]
+  ]
 
   -- a seat that is not before the slot of b is primed or at it
   primed-or-slot : (s : State S R) → 2 * b .rank .view ≤ stage s + 1 → (0 < b .rank .turn → 2 * b .rank .view ≤ stage s) → (s .phase ≡ On → s .view ≡ b .rank .view → b .rank .turn ≤ s .turn) →
@@ -104,7 +104,7 @@ module _ {S : ℕ} {R : Type 0} (b : Block R) where
               ]
           | inr past ↦ inl (inl (omega arith))
         ]
-    ]
+  ]
 
 -- a proposal leaves view, phase and turn as they are once its parent was taken in
 pub record SameSlot {S : ℕ} {R : Type 0} (s t : State S R) : Type 0 where
@@ -149,20 +149,20 @@ module _ {L : ℕ} {R : Type 0} (S : ℕ) (k : Kind L R) (w : Setting) (law : La
             let done = desk-done S k w e p final r in
             let numbers = later-turn (b .rank .view) (b .rank .turn) (b .height) (b .parent .view) (b .parent .turn) (lawful .0 .numbers) late in
             let on-after : OnIn S k w (e .who) (b .rank .view) (e ∷ p) =
-                (ap (λ (d : Desk S R). d .state .phase) (done .1) ∙ slots .phase ∙ on, ap (λ (d : Desk S R). d .state .view) (done .1) ∙ slots .view ∙ view) in
+            (ap (λ (d : Desk S R). d .state .phase) (done .1) ∙ slots .phase ∙ on, ap (λ (d : Desk S R). d .state .view) (done .1) ∙ slots .view ∙ view) in
             let turn-after : state S k w (e .who) (e ∷ p) .turn ≡ o .state .turn = ap (λ (d : Desk S R). d .state .turn) (done .1) ∙ slots .turn in
             let shelf-after : shelf S k w (e .who) (e ∷ p) ≡ o .blocks = ap (λ (d : Desk S R). d .blocks) (done .1) ∙ same in
             elim (parent-in-on S k w b parent (o .blocks) (lawful .2) there) [
               | inl one ↦ absurd (numbers .2 one)
               | inr x ↦
                   let below : x .0 .rank .turn < state S k w (e .who) (e ∷ p) .turn =
-                      turns-below S k w law (e .who) (b .rank .view) (e ∷ p) (x .0) (run .0 .driven .at-sound) run on-after
-                      (subst (λ (xs : List (Block R)). OnShelf (x .0) xs) (sym shelf-after) (x .1)) (ap (λ (q : Rank). q .view) (x .2) ∙ numbers .0) in
+                  turns-below S k w law (e .who) (b .rank .view) (e ∷ p) (x .0) (run .0 .driven .at-sound) run on-after
+                  (subst (λ (xs : List (Block R)). OnShelf (x .0) xs) (sym shelf-after) (x .1)) (ap (λ (q : Rank). q .view) (x .2) ∙ numbers .0) in
                   let pt : x .0 .rank .turn ≡ b .parent .turn = ap (λ (q : Rank). q .turn) (x .2) in
                   let up : b .parent .turn + 1 ≡ b .rank .turn = numbers .1 in
                   omega arith
             ]
-        ]
+      ]
 
       which : Primed b (o .state) ⊎ (atSlot (o .state .phase) (o .state) b ≡ true)
       which = primed-or-slot b (o .state) (subst (λ (x : ℕ). 2 * b .rank .view ≤ x + 1) (sym level) near) (λ late. subst (λ (x : ℕ). 2 * b .rank .view ≤ x) (sym level) (far late)) turns
@@ -175,10 +175,10 @@ module _ {L : ℕ} {R : Type 0} (S : ℕ) (k : Kind L R) (w : Setting) (law : La
       closed shut _ = elim which [
         | inl q ↦ q
         | inr slot ↦ elim (and-cases (not (o .state .spoiled)) (atSlot (o .state .phase) (o .state) b) shut) [
-            | inl q ↦ primed-at b (o .state) slot (inl (off (o .state .spoiled) q))
-            | inr q ↦ absurd (true-false (sym slot ∙ q))
-          ]
+          | inl q ↦ primed-at b (o .state) slot (inl (off (o .state .spoiled) q))
+          | inr q ↦ absurd (true-false (sym slot ∙ q))
         ]
+      ]
 
       -- the slot of a seat that is spoiled is the same
       at-spoilt : (f : Phase) (s : State S R) → atSlot f s b ≡ true → atSlot f (withSpoiled true s) b ≡ true

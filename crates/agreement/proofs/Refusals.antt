@@ -137,7 +137,7 @@ module _ {L : ℕ} {R : Type 0} (S : ℕ) (k : Kind L R) (w : Setting) (law : La
       parts (Proposal b seal (Some c)) got q =
           plain c (inr (inl (b, seal, got)))
           (carried-err (taken (d .state) (d .blocks) c (write (Certified c))) (judgeIn k (d .state) (d .blocks) cells (c .block)) x
-            (carried-err (proposed k t b) (takeIn k (d .state) (d .blocks) cells c (write (Certified c))) x q))
+          (carried-err (proposed k t b) (takeIn k (d .state) (d .blocks) cells c (write (Certified c))) x q))
       parts (Vote i b seal) got q = elim (cases-bool (countable k (d .state) i b)) [
         | inr lacks ↦ absurd (err-ok (sym (sym (cond-false (countable k (d .state) i b) _ _ lacks) ∙ q)))
         | inl counts ↦
@@ -160,7 +160,7 @@ module _ {L : ℕ} {R : Type 0} (S : ℕ) (k : Kind L R) (w : Setting) (law : La
                     committed = refl;
                   }
             ]
-        ]
+      ]
       parts (Blame i view seal) got q =
           absurd (oks (isOn (d .state .phase) && (eqb (d .state .view) view && not (hasSeal (d .state .blames) i))) _ _ (past (eqb view lastView) LastView _ x sh last-view q))
         where
@@ -180,12 +180,12 @@ module _ {L : ℕ} {R : Type 0} (S : ℕ) (k : Kind L R) (w : Setting) (law : La
           let r' : outcome k w (e .who) (hand inbox room) d ≡ Err x = ap (λ c. outcome k w (e .who) c d) (sym c) ∙ r in
           elim (next-err (opened k S (t .seats .n) (w .leader) (w .accepts) inbox) (handParts k t (d .state) (d .blocks) cells) x (guarded-err (d .state) room _ x sh r')) [
             | inl q ↦ elim (next-err (readParts k S (t .seats .n) inbox) _ x q) [
-                | inl u ↦ absurd (low (unread k S (t .seats .n) inbox x u))
-                | inr m ↦ elim (next-err (judge (w .accepts) (asked k S (t .seats .n) (w .leader) (m .0))) _ x (m .2)) [
-                    | inl u ↦ absurd (low (unsealed (w .accepts) (asked k S (t .seats .n) (w .leader) (m .0)) x u))
-                    | inr u ↦ absurd (err-ok (sym (u .2)))
-                  ]
+              | inl u ↦ absurd (low (unread k S (t .seats .n) inbox x u))
+              | inr m ↦ elim (next-err (judge (w .accepts) (asked k S (t .seats .n) (w .leader) (m .0))) _ x (m .2)) [
+                | inl u ↦ absurd (low (unsealed (w .accepts) (asked k S (t .seats .n) (w .leader) (m .0)) x u))
+                | inr u ↦ absurd (err-ok (sym (u .2)))
               ]
+            ]
             | inr m ↦
                 let a = next-ok (readParts k S (t .seats .n) inbox) _ (m .0) (m .1) in
                 let b = next-ok (judge (w .accepts) (asked k S (t .seats .n) (w .leader) (a .0))) _ (m .0) (a .2) in
@@ -193,7 +193,7 @@ module _ {L : ℕ} {R : Type 0} (S : ℕ) (k : Kind L R) (w : Setting) (law : La
                 let n : t .seats .n ≡ w .n = law .shares-n (e .who) sound in
                 let box : inbox ≡ inboxOf (e .what) = ap inboxOf (sym c) in
                 let reads : readParts k S (w .n) (inboxOf (e .what)) ≡ Ok (a .0) =
-                  subst (λ (xs : List ℕ). readParts k S (w .n) xs ≡ Ok (a .0)) box (subst (λ (j : ℕ). readParts k S j inbox ≡ Ok (a .0)) n (a .1)) in
+                subst (λ (xs : List ℕ). readParts k S (w .n) xs ≡ Ok (a .0)) box (subst (λ (j : ℕ). readParts k S j inbox ≡ Ok (a .0)) n (a .1)) in
                 let good : judge (w .accepts) (asked k S (w .n) (w .leader) (a .0)) ≡ Ok tt = subst (λ (j : ℕ). judge (w .accepts) (asked k S j (w .leader) (a .0)) ≡ Ok tt) n (b .1) in
                 parts (a .0) ((reads, good), lawful-from-read k S (w .n) (inboxOf (e .what)) (a .0) (run .0 .driven .in-bytes) reads) (ap (handParts k t (d .state) (d .blocks) cells) same ∙ m .2)
           ]
@@ -233,13 +233,13 @@ module _ {L : ℕ} {R : Type 0} (S : ℕ) (k : Kind L R) (w : Setting) (law : La
         let f = rank-found (b .parent) bs c on rank in
         let same : f .0 ≡ c = one-a-rank S k w law (e .who) p (f .0) c (run .0 .driven .at-sound) (run .1) (on-from-find (b .parent) bs (f .0) (f .1)) on (find-rank (b .parent) bs (f .0) (f .1) ∙ sym rank) in
         cond-false (eqb (b .height) 1) _ _ more ∙ ap (oneUp (b .height)) (f .1) ∙ eq-eqb (f .0 .height + 1) (b .height) (ap (λ (y : Block R). y .height + 1) same ∙ high)
-    ]
+  ]
 
   parent-there : (e : Event) (p : History) (b : Block R) → parentThere (shelf S k w (e .who) p) b ≡ true → ParentOn S k w b (shelf S k w (e .who) p)
   parent-there e p b t = elim (parent-from-test (shelf S k w (e .who) p) b t) [
     | inl one ↦ inl one
     | inr x ↦ inr (x .0, on-from-find (b .parent) (shelf S k w (e .who) p) (x .0) (x .1 .0), find-rank (b .parent) (shelf S k w (e .who) p) (x .0) (x .1 .0), x .1 .1)
-    ]
+  ]
 
   pub orphan-because : (e : Event) (p : History) → Run S k w (e ∷ p) → Refused S k w Orphan e p →
       (b : Block R) × Candidate S k w b e p × (ParentOn S k w b (shelf S k w (e .who) p) → ⊥)
@@ -265,9 +265,14 @@ module _ {L : ℕ} {R : Type 0} (S : ℕ) (k : Kind L R) (w : Setting) (law : La
       by f (inl q) = absurd (let z : _≡_ {A = ℕ} 10 9 = ap numberOf (q .0) in omega arith)
       by f (inr (inl q)) =
           let b : Block R = f .certificate .block in
-          let x = q .1 in
-          (b, x .0, candidate e p Rival run f, on-from-find (b .rank) (shelf S k w (e .who) p) (x .0) (x .1), find-rank (b .rank) (shelf S k w (e .who) p) (x .0) (x .1),
-            λ same. true-false (sym (subst (λ (y : Block R). sameBlock k (x .0) y ≡ true) (sym same) (same-self k (x .0))) ∙ x .2))
+          let x = q .1 in (
+            b,
+            x .0,
+            candidate e p Rival run f,
+            on-from-find (b .rank) (shelf S k w (e .who) p) (x .0) (x .1),
+            find-rank (b .rank) (shelf S k w (e .who) p) (x .0) (x .1),
+            λ same. true-false (sym (subst (λ (y : Block R). sameBlock k (x .0) y ≡ true) (sym same) (same-self k (x .0))) ∙ x .2),
+          )
       by f (inr (inr (inl q))) = absurd (let z : _≡_ {A = ℕ} 10 12 = ap numberOf (q .0) in omega arith)
       by f (inr (inr (inr (inl q)))) = absurd (let z : _≡_ {A = ℕ} 10 11 = ap numberOf q in omega arith)
       by f (inr (inr (inr (inr q)))) = absurd (let z : _≡_ {A = ℕ} 10 23 = ap numberOf q in omega arith)

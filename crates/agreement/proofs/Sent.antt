@@ -121,9 +121,9 @@ module _ {L : ℕ} {R : Type 0} (S : ℕ) (k : Kind L R) (w : Setting) (law : La
           let r' : outcome k w (e .who) (tick room) d ≡ Ok o = ap (λ c. outcome k w (e .who) c d) (sym c) ∙ r in
           subst (SentSo S k w e p) (sym (tick-so t (d .state) (d .blocks) room o r'))
           (tick-cases t (SentSo S k w e p) (d .state) (d .blocks) (inl tt, tt)
-            (λ since leaving ripe. entering (enter (min (d .state .view + 1) lastView) (turnAfter (topTurn (min (d .state .view + 1) lastView) (d .blocks))) (withNow (d .state .now + 1) (d .state))))
-            (λ on. blaming Idle None (withNow (d .state .now + 1) (d .state)) (λ x m n. inl (subst Passing (sym m) tt)))
-            (λ note on noted due. blaming Voted (Some (write (Vote (t .own) (note .block) (zeroSeal S)))) (withNote (Some (votedFor note)) (withNow (d .state .now + 1) (d .state))) (λ x m n. inr (inl (record { note = note; on = on; noted = noted; due = due; later = n; message = m })))))
+          (λ since leaving ripe. entering (enter (min (d .state .view + 1) lastView) (turnAfter (topTurn (min (d .state .view + 1) lastView) (d .blocks))) (withNow (d .state .now + 1) (d .state))))
+          (λ on. blaming Idle None (withNow (d .state .now + 1) (d .state)) (λ x m n. inl (subst Passing (sym m) tt)))
+          (λ note on noted due. blaming Voted (Some (write (Vote (t .own) (note .block) (zeroSeal S)))) (withNote (Some (votedFor note)) (withNow (d .state .now + 1) (d .state))) (λ x m n. inr (inl (record { note = note; on = on; noted = noted; due = due; later = n; message = m })))))
       call (offer content room) c =
           let r' : outcome k w (e .who) (offer content room) d ≡ Ok o = ap (λ c. outcome k w (e .who) c d) (sym c) ∙ r in
           let h = offered-so k t (w .leader) (d .state) (d .blocks) content room o r' in

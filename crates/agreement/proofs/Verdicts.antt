@@ -109,14 +109,24 @@ module _ {L S : ℕ} {R : Type 0} (k : Kind L R) (s : State S R) (bs : List (Blo
       fork : find (b .rank) bs ≡ None → parentThere bs b ≡ true → commits s b ≡ true → (l : Block R) → s .committed ≡ Some l → (q : Result (Option (Block R)) Refusal) →
           readBelow bs (parentOf b) (l .height) ≡ q → isLast k l q ≡ Err r → RefusedThere r
       fork f t c l m (Err x) q e = inr (inr (inr (inr (sym (err-same e) ∙ read-err bs (parentOf b) (l .height) x q))))
-      fork f t c l m (Ok None) q e = inr (inr (inl (sym (err-same e),
-          record { rank-free = f; parent = t; commits-it = c; last = l; committed = m; elsewhere = λ z. none-some (ok-same (sym q ∙ z)) })))
+      fork f t c l m (Ok None) q e = inr (inr (inl (
+        sym (err-same e),
+        record { rank-free = f; parent = t; commits-it = c; last = l; committed = m; elsewhere = λ z. none-some (ok-same (sym q ∙ z)) },
+      )))
       fork f t c l m (Ok (Some y)) q e = elim (cases-bool (sameBlock k y l)) [
         | inl u ↦ absurd (err-ok (sym (sym (ap (λ (v : Bool). cond {A = Result Verdict Refusal} v (Ok New) (Err Fork)) u) ∙ e)))
-        | inr u ↦ inr (inr (inl (sym (err-same (sym (ap (λ (v : Bool). cond {A = Result Verdict Refusal} v (Ok New) (Err Fork)) u) ∙ e)),
-            record { rank-free = f; parent = t; commits-it = c; last = l; committed = m;
-              elsewhere = λ z. true-false (sym (subst (λ (x : Block R). sameBlock k x l ≡ true) (sym (some-same (ok-same (sym q ∙ z)))) (same-self k l)) ∙ u) })))
-        ]
+        | inr u ↦ inr (inr (inl (
+          sym (err-same (sym (ap (λ (v : Bool). cond {A = Result Verdict Refusal} v (Ok New) (Err Fork)) u) ∙ e)),
+          record {
+            rank-free = f;
+            parent = t;
+            commits-it = c;
+            last = l;
+            committed = m;
+            elsewhere = λ z. true-false (sym (subst (λ (x : Block R). sameBlock k x l ≡ true) (sym (some-same (ok-same (sym q ∙ z)))) (same-self k l)) ∙ u);
+          },
+        )))
+      ]
 
       extend : find (b .rank) bs ≡ None → parentThere bs b ≡ true → commits s b ≡ true → (o : Option (Block R)) → s .committed ≡ o → extends k bs o b ≡ Err r → RefusedThere r
       extend f t c None m e = absurd (err-ok (sym e))

@@ -67,7 +67,7 @@ module _ {L : ℕ} {R : Type 0} (S : ℕ) (k : Kind L R) (w : Setting) (law : La
           (o, r, v .message ∙ ap (λ (x : Block R). Some (write (Vote (w .terms (e .who) .own) x (zeroSeal S)))) same)
       by (inr (inr f)) =
           let says : proposalStatement k (offeredBlock (state S k w (e .who) p) (f .content)) ≡ voteStatement k b =
-            subst (λ (x : Outcome S R). Own S k w (voteStatement k b) (x .sends .message)) (f .made) own in
+          subst (λ (x : Outcome S R). Own S k w (voteStatement k b) (x .sends .message)) (f .made) own in
           absurd (proposal-no-vote k (offeredBlock (state S k w (e .who) p) (f .content)) b says)
 
   -- what a seat said as a vote for a lawful block is its vote
