@@ -119,9 +119,6 @@ module _ {S : ℕ} {R : Type 0} (b : Block R) where
       (λ at _. primed-turn (withBest (better (s .best) c) s) _ (and-parts (isOn (s .phase)) _ at .0) low refl q)
 
 module _ {L : ℕ} {R : Type 0} (S : ℕ) (k : Kind L R) (w : Setting) (law : Lawful w) where
-  abbrev PrimedInv : Block R → ℕ → History → State S R → List (Block R) → Type 0
-  PrimedInv b i h s bs = NoteInv S k w i h s bs × Primed b s
-
   pub primed-kept : (b : Block R) (e : Event) (p : History) → LawfulBlock k b → Moment S k w e p → Kept S k w e p (λ s bs. NoteInv S k w (e .who) p s bs × Primed b s)
   primed-kept b e p lawful now = record {
     slips = λ s bs out q. q;
