@@ -175,7 +175,7 @@ module _ {S : ℕ} {R : Type 0} (p : Terms) where
       (blames p Voted vote voted []) (blames p Idle None s []) bs (blames-over Voted vote voted bs) (blames-over Idle None s bs)
 
   -- a seat that is on ticks alike over any blocks
-  pub tick-on : (phase : Phase) (s : State S R) (bs : List (Block R)) → phase ≡ On → ticked p phase s bs ≡ over bs (onTick p (s .round .note) s [])
+  tick-on : (phase : Phase) (s : State S R) (bs : List (Block R)) → phase ≡ On → ticked p phase s bs ≡ over bs (onTick p (s .round .note) s [])
   tick-on phase s bs e = ap (λ x. ticked p x s bs) e ∙ on-over (s .round .note) s bs
 
   entered-blocks : (s : State S R) (bs : List (Block R)) → entered p s bs .blocks ≡ bs
@@ -192,3 +192,10 @@ module _ {S : ℕ} {R : Type 0} (p : Terms) where
   -- a tick leaves the shelf alone
   pub tick-blocks : (s : State S R) (bs : List (Block R)) → tickStep p s bs .blocks ≡ bs
   tick-blocks s bs = ticked-blocks (s .phase) (withNow (s .now + 1) s) bs
+
+module _ {L S : ℕ} {R : Type 0} (k : Kind L R) (p : Terms) where
+  pub on-ticks : (phase : Phase) (s s1 : State S R) (bs : List (Block R)) (answer : Answer) (out out′ : List ℕ) → phase ≡ On →
+    Shows k (onTick p (s .round .note) s []) answer s1 out out′ → Shows k (ticked p phase s bs) answer s1 out out′
+  on-ticks phase s s1 bs answer out out′ e h =
+      subst (λ (o : Outcome S R). Shows k o answer s1 out out′) (sym (tick-on p phase s bs e))
+        (record { answer-is = h .answer-is; state-is = h .state-is; outbox-is = h .outbox-is })

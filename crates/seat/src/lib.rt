@@ -1,5 +1,6 @@
 // One seat of the log: what it keeps, and what it does with each message, tick and offer.
 pub mod answer;
+pub(crate) mod offering;
 pub(crate) mod sending;
 pub mod state;
 pub(crate) mod taking;

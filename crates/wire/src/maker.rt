@@ -40,32 +40,18 @@ fn both(first: Result<(), Refusal>, second: Result<(), Refusal>) -> Result<(), R
     }
 }
 
-fn judge_block<const L: usize, C: Content<L>>(
-    block: Block<C::Record>,
-    at: usize,
-) -> Result<(), Refusal>
+fn judge_block<const L: usize, C: Content<L>>(block: Block<C::Record>, at: usize) -> Result<(), Refusal>
     requires { ⌜ at + 12 < 2 ^ 64 ⌝ }
     ensures answer { λ r. ⌜ ((fits : Bool) → Decides fits (Lawful (C·Content .kind) (block .content)) → r ≡ judgeBlock fits at block) ⌝ }
     ensures lawful { λ r. ⌜ made r (λ _. LawfulBlock (C·Content .kind) block) ⌝ }
 {
     both(
-        ok_if(
-            lawful_numbers(block.rank, block.height, block.parent),
-            Refusal::BadLayout { at },
-        ),
-        ok_if(
-            C::lawful(&block.content),
-            Refusal::NoContent { at: at + 12 },
-        ),
+        ok_if(lawful_numbers(block.rank, block.height, block.parent), Refusal::BadLayout { at }),
+        ok_if(C::lawful(&block.content), Refusal::NoContent { at: at + 12 }),
     )
 }
 
-fn judge_row<const S: usize>(
-    seats: SeatCount,
-    mask: u16,
-    seals: &[u8],
-    at: usize,
-) -> Result<(), Refusal>
+fn judge_row<const S: usize>(seats: SeatCount, mask: u16, seals: &[u8], at: usize) -> Result<(), Refusal>
     requires { ⌜ at + 2 < 2 ^ 64 ⌝ }
     ensures answer { λ r. ⌜ r ≡ judgeRow S (seats .n) at mask (now (seals .entry)) ⌝ }
     ensures lawful { λ r. ⌜ made r (λ _. LawfulRow S (seats .n) mask (now (seals .entry))) ⌝ }
@@ -73,9 +59,6 @@ fn judge_row<const S: usize>(
     let size = seats.quorum() as u128 * S as u128;
     both(
         ok_if(lawful_mask(seats, mask), Refusal::BadLayout { at }),
-        ok_if(
-            seals.len() as u128 == size,
-            Refusal::BadLayout { at: at + 2 },
-        ),
+        ok_if(seals.len() as u128 == size, Refusal::BadLayout { at: at + 2 }),
     )
 }

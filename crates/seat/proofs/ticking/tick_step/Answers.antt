@@ -1,17 +1,12 @@
 use Prim.Native.Nat.{_+_}
-use mathlib.Core.Path.{ap, sym, _∙_}
 use Rattle.shelf.specs.Blocks.{held}
 use Rattle.seat.specs.Parts.{withNow}
-use Rattle.seat.specs.Sends.{answerOf, outboxAfter}
-use Rattle.seat.proofs.Ticks.{tick-on}
+use Rattle.seat.proofs.Ticks.{on-ticks}
 use Rattle.seat.proofs.ticking.tick_step.Needs as need
 
 pub returns-in-On : need.returns-in-On
 returns-in-On g c =
-    let s = c .args .state .now in
-    let e = tick-on (c .args .terms .now) (s .phase) (withNow (s .now + 1) s) (held (c .args .shelf .now)) (c .in-On .is) in
-    record {
-      answer = c .on-tick .ensures .answer ∙ ap (λ o. answerOf (g .C·Content .kind) o) (sym e);
-      state = c .on-tick .ensures .state ∙ ap (λ o. o .state) (sym e);
-      outbox = c .on-tick .ensures .outbox ∙ ap (λ o. outboxAfter (g .C·Content .kind) (o .sends) (c .args .outbox .now)) (sym e);
-    }
+    let h = on-ticks (g .C·Content .kind) (c .args .terms .now) (c .args .state .now .phase) (withNow (c .args .state .now .now + 1) (c .args .state .now))
+      (c .on-tick .last .state) (held (c .args .shelf .now)) (c .on-tick .result) (c .args .outbox .now) (c .on-tick .last .outbox) (c .in-On .is)
+      (record { answer-is = c .on-tick .ensures .answer; state-is = c .on-tick .ensures .state; outbox-is = c .on-tick .ensures .outbox }) in
+    record { answer = h .answer-is; state = h .state-is; outbox = h .outbox-is }
