@@ -1,3 +1,4 @@
+pub mod Offers
 pub mod Ticks
 pub mod Certificates
 pub mod Doing

@@ -57,6 +57,11 @@ module _ {S : ℕ} {R : Type 0} where
   abbrev pub sentStep : State S R → State S R
   sentStep s = withSlip false s
 
+  -- the state after a step, before any slip is given
+  abbrev pub stepState : State S R → Result (Outcome S R) Refusal → State S R
+  stepState s (Ok o) = o .state
+  stepState s (Err e) = s
+
   -- what is left after a call: a refused one leaves seat, shelf and outbox as they were; one that is carried out gives a slip
   abbrev pub stateAfter : State S R → Result (Outcome S R) Refusal → State S R
   stateAfter s (Ok o) = withSlip true (o .state)

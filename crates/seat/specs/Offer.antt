@@ -59,6 +59,10 @@ module _ {S : ℕ} {R : Type 0} where
     content = content;
   }
 
+  -- no turn or no height is left
+  abbrev pub noPlace : State S R → Bool
+  noPlace s = ltb lastTurn (s .turn) || ltb lastHeight (nextHeight (s .best))
+
 module _ {R : Type 0} (p : Terms) where
   -- best's certificate, as it is kept
   abbrev pub bestBody : (S : ℕ) → Option (Best R) → Option (Certificate R (List ℕ))
@@ -87,16 +91,16 @@ module _ {S : ℕ} {R : Type 0} (p : Terms) where
     blocks = bs;
   }
 
-  -- who may offer, and when
-  abbrev pub mayOffer : (leader : ℕ → ℕ) → State S R → Outcome S R → Result (Outcome S R) Refusal
-  mayOffer leader s o =
+  -- who may offer, and when: then an answer is given
+  abbrev pub mayOffer : {X : Type 0} → (leader : ℕ → ℕ) → State S R → X → Result X Refusal
+  mayOffer leader s x =
       cond (not (eqb (leader (s .view)) (p .own))) (Err NotLeader)
       (cond (not (isOn (s .phase))) (Err OfferLeaving)
       (cond (s .spoiled) (Err OfferSpoiled)
       (cond (s .round .offered) (Err OfferedAlready)
-      (cond (ltb lastTurn (s .turn) || ltb lastHeight (nextHeight (s .best))) (Err NoPlaceLeft)
+      (cond (noPlace s) (Err NoPlaceLeft)
       (cond (tooSoon s) (Err OfferTooSoon)
-      (cond (canCarry (s .view) (s .turn) (s .best)) (Ok o) (Err NoLawfulParent)))))))
+      (cond (canCarry (s .view) (s .turn) (s .best)) (Ok x) (Err NoLawfulParent)))))))
 
 module _ {L S : ℕ} {R : Type 0} (k : Kind L R) (p : Terms) (leader : ℕ → ℕ) where
   abbrev pub offerStep : State S R → List (Block R) → List ℕ → Result (Outcome S R) Refusal

@@ -78,8 +78,8 @@ module _ {S : ℕ} {R : Type 0} (p : Terms) where
   abbrev pub enteredAt : State S R → List (Block R) → (spoiled : Bool) → Outcome S R
   enteredAt s bs spoiled =
       cond spoiled
-        (sending Blamed None (Some (ownBlame p s)) (withBlamed true s) bs)
-        (sending Entered None None s bs)
+      (sending Blamed None (Some (ownBlame p s)) (withBlamed true s) bs)
+      (sending Entered None None s bs)
 
   abbrev pub entered : State S R → List (Block R) → Outcome S R
   entered s bs = enteredAt s bs (s .spoiled)

@@ -1,14 +1,15 @@
 // One tick of the clock.
 ghost use mathlib.Core.Path.{_≡_};
-ghost use Prim.Native.Nat.{_+_, _-_, _*_, _≤_};
+ghost use Prim.Native.Nat.{_+_, _-_, _*_, _<_, _≤_};
 ghost use mathlib.Core.Bool.{cond};
 ghost use mathlib.Core.List.{[]};
 ghost use lib.Dec.{eqb, leb};
 ghost use lib.ListN.{length};
+ghost use Rattle.std.specs.Options.{isSome};
 ghost use Rattle.std.specs.declared.option.Option.the-variants.{None, Some};
 ghost use Rattle.shelf.specs.Blocks.{held};
 ghost use Rattle.seat.specs.Sends.{answerOf, endOf, itemAt, outboxAfter, putItem};
-ghost use Rattle.seat.specs.Tick.{afterBlame, afterVote, blameDue, blameOf, enter, enteredAt, leavingTick, onTick, placeOf, ripe, turnAfter, voteDue, voteOf};
+ghost use Rattle.seat.specs.Tick.{afterBlame, afterVote, blameDue, blameOf, enter, enteredAt, leavingTick, onTick, placeOf, ripe, tickStep, turnAfter, voteDue, voteOf};
 ghost use Rattle.seat.specs.declared.answer.Word.the-variants.{Blamed, Idle, Voted};
 use crate::answer::Answer;
 use crate::answer::Item;
@@ -106,18 +107,16 @@ fn entered<const L: usize, const S: usize, C: Content<L>>(
     ensures state { λ _. ⌜ now (state .exit) ≡ enteredAt (now (terms .entry)) (now (state .entry)) [] (now (state .entry) .spoiled) .state ⌝ }
     ensures outbox { λ _. ⌜ now (outbox .exit) ≡ outboxAfter (C·Content .kind) (enteredAt (now (terms .entry)) (now (state .entry)) [] (now (state .entry) .spoiled) .sends) (now (outbox .entry)) ⌝ }
 {
-    match state.spoiled {
-        false => Answer::of(Word::Entered),
-        true => {
-            state.blamed = true;
-            Answer {
-                word: Word::Blamed,
-                height: 0,
-                certificate: None,
-                message: None,
-                blame: Some(put_blame::<L, S, C>(terms, state.view, outbox, 0)),
-            }
-        }
+    if !state.spoiled {
+        return Answer::of(Word::Entered);
+    }
+    state.blamed = true;
+    Answer {
+        word: Word::Blamed,
+        height: 0,
+        certificate: None,
+        message: None,
+        blame: Some(put_blame::<L, S, C>(terms, state.view, outbox, 0)),
     }
 }
 
@@ -176,7 +175,10 @@ fn vote_for<const L: usize, const S: usize, C: Content<L>>(
     if !state.vote_due(terms, &note) {
         return None;
     }
-    state.round.note = Some(Note { voted: true, ..note });
+    state.round.note = Some(Note {
+        voted: true,
+        ..note
+    });
     Some(put_vote::<L, S, C>(terms, &note.block, outbox))
 }
 
@@ -208,13 +210,13 @@ fn end_of(item: &Option<Item>) -> usize
 }
 
 // The last thing that a tick did.
-fn last_word(voted: bool, blamed: bool) -> Word
-    ensures { λ r. ⌜ r ≡ cond blamed Blamed (cond voted Voted Idle) ⌝ }
+fn last_word(message: &Option<Item>, blame: &Option<Item>) -> Word
+    ensures { λ r. ⌜ r ≡ cond (isSome (now (blame .entry))) Blamed (cond (isSome (now (message .entry))) Voted Idle) ⌝ }
 {
-    match (blamed, voted) {
-        (true, _) => Word::Blamed,
-        (false, true) => Word::Voted,
-        (false, false) => Word::Idle,
+    match (blame, message) {
+        (Some(_), _) => Word::Blamed,
+        (None, Some(_)) => Word::Voted,
+        (None, None) => Word::Idle,
     }
 }
 
@@ -232,10 +234,31 @@ fn on_tick<const L: usize, const S: usize, C: Content<L>>(
     let message = vote_if_due::<L, S, C>(terms, state, outbox);
     let blame = blame_if_due::<L, S, C>(terms, state, outbox, end_of(&message));
     Answer {
-        word: last_word(message.is_some(), blame.is_some()),
+        word: last_word(&message, &blame),
         height: 0,
         certificate: None,
         message,
         blame,
+    }
+}
+
+// One tick of the clock: a seat that is on votes and blames, one that is leaving may enter the next view.
+pub fn tick_step<const L: usize, const S: usize, C: Content<L>>(
+    terms: &Terms,
+    state: &mut State<S, C::Record>,
+    shelf: &Shelf<'_, C::Record>,
+    outbox: &mut [u8],
+) -> Answer
+    requires clock { ⌜ now state .now < 1000000000 ⌝ }
+    requires room { ⌜ 1024 ≤ length (now outbox) ⌝ }
+    requires seal { ⌜ S ≤ 64 ⌝ }
+    ensures answer { λ r. ⌜ r ≡ answerOf (C·Content .kind) (tickStep (now (terms .entry)) (now (state .entry)) (held (now (shelf .entry)))) ⌝ }
+    ensures state { λ _. ⌜ now (state .exit) ≡ tickStep (now (terms .entry)) (now (state .entry)) (held (now (shelf .entry))) .state ⌝ }
+    ensures outbox { λ _. ⌜ now (outbox .exit) ≡ outboxAfter (C·Content .kind) (tickStep (now (terms .entry)) (now (state .entry)) (held (now (shelf .entry))) .sends) (now (outbox .entry)) ⌝ }
+{
+    state.now += 1;
+    match state.phase {
+        Phase::On => on_tick::<L, S, C>(terms, state, outbox),
+        Phase::Leaving { since } => leaving_tick::<L, S, C>(terms, since, state, shelf, outbox),
     }
 }

@@ -1,0 +1,148 @@
+-- The offer's outcome, test by test, as its code makes it.
+use Prim.Native.Nat.{ℕ, _+_, _-_, _*_, _≤_}
+use mathlib.Core.Path.{_≡_, refl, ap, subst, sym, _∙_}
+use mathlib.Core.Bool.{Bool, true, false, cond, not, _||_}
+use mathlib.Core.List.{List, []}
+use lib.Dec.{eqb, ltb}
+use lib.ListN.{length, length-take, take}
+use native.Mathlib.Omega.{arith}
+use native.Mathlib.Nat.{mul-le-mul-left, sub-zero}
+use Rattle.std.proofs.shelf.Ways.{tells}
+use Rattle.std.specs.declared.option.Option.{Option}
+use Rattle.std.specs.declared.option.Option.the-variants.{Some, None}
+use Rattle.std.specs.declared.result.Result.{Result}
+use Rattle.std.specs.declared.result.Result.the-variants.{Ok, Err}
+use Rattle.content.specs.Kinds.{Kind, readContent}
+use Rattle.content.specs.declared.refusal.Refusal.{Refusal}
+use Rattle.content.specs.declared.refusal.Refusal.the-variants.{NotLeader, OfferLeaving, OfferSpoiled, OfferedAlready, NoPlaceLeft, OfferTooSoon, NoLawfulParent}
+use Rattle.rota.specs.Limits.{seatsLawful}
+use Rattle.wire.specs.Masks.{quorum}
+use Rattle.wire.specs.Reading.{next}
+use Rattle.wire.specs.declared.block.Block.{Block}
+use Rattle.wire.specs.declared.message.Parts.the-variants.{Proposal}
+use Rattle.seat.specs.Calls.{answerAfter, boxAfter, stepState}
+use Rattle.seat.specs.HandIn.{carried}
+use Rattle.seat.specs.Offer.{bestBody, canCarry, mayOffer, nextHeight, noPlace, offeredBlock, offers, offerStep, tooSoon}
+use Rattle.seat.specs.Parts.{isOn, withOffered}
+use Rattle.seat.specs.Sends.{Outcome, Sending, itemAt, putItem, write, zeroSeal}
+use Rattle.seat.specs.declared.answer.Answer.{Answer}
+use Rattle.seat.specs.declared.answer.Item.{Item}
+use Rattle.seat.specs.declared.answer.Word.the-variants.{Offered}
+use Rattle.seat.specs.declared.state.State.{State}
+use Rattle.seat.specs.declared.state.Terms.{Terms}
+use Rattle.seat.proofs.Ticks.{Shows}
+
+module _ {X : Type 0} where
+  -- a test that refuses, and one that does not
+  pub stops : (b : Bool) (e : Refusal) (r : Result X Refusal) → b ≡ true → Err e ≡ cond b (Err e) r
+  stops b e r h = rw h refl
+
+  pub passes : (b : Bool) (e : Refusal) (r a : Result X Refusal) → b ≡ false → a ≡ r → a ≡ cond b (Err e) r
+  passes b e r a h k = rw h k
+
+  pub bars : (b : Bool) (e : Refusal) (x : X) → b ≡ false → Err e ≡ cond b (Ok x) (Err e)
+  bars b e x h = rw h refl
+
+  pub lets : (b : Bool) (e : Refusal) (x : X) → b ≡ true → Ok x ≡ cond b (Ok x) (Err e)
+  lets b e x h = rw h refl
+
+  passed : (b : Bool) (e : Refusal) (r : Result X Refusal) (x : X) → cond b (Err e) r ≡ Ok x → (b ≡ false) × (r ≡ Ok x)
+  passed true e r x h = absurd (let z : _≡_ {A = ℕ} 0 1 = cc in omega arith)
+  passed false e r x h = (refl, h)
+
+  carried-unless : {Y : Type 0} (b : Bool) (e : Refusal) (f : Y → X) (r : Result Y Refusal) (q : Result X Refusal) → q ≡ carried f r → cond b (Err e) q ≡ carried f (cond b (Err e) r)
+  carried-unless true e f r q h = refl
+  carried-unless false e f r q h = h
+
+  carried-if : {Y : Type 0} (b : Bool) (e : Refusal) (f : Y → X) (y : Y) → cond b (Ok (f y)) (Err e) ≡ carried f (cond b (Ok y) (Err e))
+  carried-if true e f y = refl
+  carried-if false e f y = refl
+
+module _ {S : ℕ} {R : Type 0} (p : Terms) (leader : ℕ → ℕ) (s : State S R) where
+  -- the tests do not see what is answered behind them
+  pub may-carried : {X : Type 0} (x : X) → mayOffer p leader s x ≡ carried (λ _. x) (mayOffer p leader s (tt {0}))
+  may-carried x =
+      carried-unless (not (eqb (leader (s .view)) (p .own))) NotLeader (λ _. x) _ _
+      (carried-unless (not (isOn (s .phase))) OfferLeaving (λ _. x) _ _
+      (carried-unless (s .spoiled) OfferSpoiled (λ _. x) _ _
+      (carried-unless (s .round .offered) OfferedAlready (λ _. x) _ _
+      (carried-unless (noPlace s) NoPlaceLeft (λ _. x) _ _
+      (carried-unless (tooSoon p s) OfferTooSoon (λ _. x) _ _
+      (carried-if (canCarry (s .view) (s .turn) (s .best)) NoLawfulParent (λ _. x) (tt {0})))))))
+
+  -- a seat that may offer has a place
+  places : {X : Type 0} (x : X) → mayOffer p leader s x ≡ Ok x → noPlace s ≡ false
+  places x h =
+      let a = passed (not (eqb (leader (s .view)) (p .own))) NotLeader _ x h in
+      let b = passed (not (isOn (s .phase))) OfferLeaving _ x (a .1) in
+      let c = passed (s .spoiled) OfferSpoiled _ x (b .1) in
+      let d = passed (s .round .offered) OfferedAlready _ x (c .1) in
+      passed (noPlace s) NoPlaceLeft _ x (d .1) .0
+
+within : (turn height : ℕ) → (ltb 65535 turn || ltb 4294967295 height) ≡ false → (turn ≤ 65535) × (height ≤ 4294967295)
+within turn height h = (grind (arith, tells), grind (arith, tells))
+
+-- a quorum of seals fits into the memory of a row
+pub row-fits : (n S q : ℕ) → seatsLawful n ≡ true → S ≤ 64 → q ≡ quorum n → q * S ≤ 512
+row-fits n S q h k e =
+    let o : q ≤ 8 = grind (arith, tells) in
+    let m : q * S ≤ q * 64 = mul-le-mul-left q k in
+    omega arith
+
+pub row-is : (n S q : ℕ) (seals : List ℕ) → q ≡ quorum n → take (q * S - 0) seals ≡ take (quorum n * S) seals
+row-is n S q seals e = ap (λ m. take m seals) (sub-zero (q * S) ∙ ap (λ x. x * S) e)
+
+pub row-short : (k : ℕ) (seals : List ℕ) → k ≤ 512 → length (take (k - 0) seals) ≤ 512
+row-short k seals h = omega (arith, length-take (k - 0) seals)
+
+-- what a step shows of its result: its answer, its state, its outbox
+pub record Steps {L S : ℕ} {R : Type 0} (k : Kind L R) (s : State S R) (out : List ℕ) (r : Result (Outcome S R) Refusal) (answer : Result Answer Refusal) (s′ : State S R) (out′ : List ℕ) : Type 0 where
+  pub answer-is : answer ≡ answerAfter k r
+  pub state-is : s′ ≡ stepState s r
+  pub outbox-is : out′ ≡ boxAfter k out r
+
+module _ {L S : ℕ} {R : Type 0} (k : Kind L R) (p : Terms) (leader : ℕ → ℕ) (s : State S R) (bs : List (Block R)) where
+  refuses : (r : Result (Outcome S R) Refusal) (e : Refusal) (answer : Result Answer Refusal) (out : List ℕ) → r ≡ Err e → answer ≡ Err e → Steps k s out r answer s out
+  refuses r e answer out h a =
+      subst (λ (x : Result (Outcome S R) Refusal). Steps k s out x answer s out) (sym h) (record { answer-is = a; state-is = refl; outbox-is = refl })
+
+  -- bytes that are no content
+  pub offer-unread : (bytes : List ℕ) (e : Refusal) (answer : Result Answer Refusal) (out : List ℕ) → readContent k bytes ≡ Err e → answer ≡ Err e →
+    Steps k s out (offerStep k p leader s bs bytes) answer s out
+  offer-unread bytes e answer out h a =
+      refuses (offerStep k p leader s bs bytes) e answer out (ap (λ r. next r (λ content. mayOffer p leader s (offers p s bs content))) h) a
+
+  offer-is : (bytes : List ℕ) (content : R) (r : Result (Unit {0}) Refusal) → readContent k bytes ≡ Ok content → r ≡ mayOffer p leader s (tt {0}) →
+    offerStep k p leader s bs bytes ≡ carried (λ _. offers p s bs content) r
+  offer-is bytes content r h a =
+      ap (λ r. next r (λ content. mayOffer p leader s (offers p s bs content))) h ∙ (may-carried p leader s (offers p s bs content) ∙ ap (λ x. carried (λ _. offers p s bs content) x) (sym a))
+
+  -- a seat that may not offer
+  pub offer-barred : (bytes : List ℕ) (content : R) (e : Refusal) (answer : Result Answer Refusal) (out : List ℕ) → readContent k bytes ≡ Ok content → Err e ≡ mayOffer p leader s (tt {0}) →
+    answer ≡ Err e → Steps k s out (offerStep k p leader s bs bytes) answer s out
+  offer-barred bytes content e answer out h a b = refuses (offerStep k p leader s bs bytes) e answer out (offer-is bytes content (Err e) h a) b
+
+  -- a seat that may
+  pub offer-made : (bytes : List ℕ) (content : R) (answer : Answer) (s′ : State S R) (out out′ : List ℕ) → readContent k bytes ≡ Ok content → Ok (tt {0}) ≡ mayOffer p leader s (tt {0}) →
+    Shows k (offers p s bs content) answer s′ out out′ → Steps k s out (offerStep k p leader s bs bytes) (Ok answer) s′ out′
+  offer-made bytes content answer s′ out out′ h a w =
+      subst (λ (x : Result (Outcome S R) Refusal). Steps k s out x (Ok answer) s′ out′) (sym (offer-is bytes content (Ok (tt {0})) h a))
+        (record { answer-is = ap (λ x. Ok x) (w .answer-is); state-is = w .state-is; outbox-is = w .outbox-is })
+
+module _ {S : ℕ} {R : Type 0} (p : Terms) (leader : ℕ → ℕ) (s : State S R) where
+  pub offer-places : Ok (tt {0}) ≡ mayOffer p leader s (tt {0}) → (s .turn ≤ 65535) × (nextHeight (s .best) ≤ 4294967295)
+  offer-places h = within (s .turn) (nextHeight (s .best)) (places p leader s (tt {0}) (sym h))
+
+module _ {L S : ℕ} {R : Type 0} (k : Kind L R) (p : Terms) where
+  -- the proposal, written
+  pub proposes : (s : State S R) (content : R) (block : Block R) (item : Item) (out out′ : List ℕ) → block ≡ offeredBlock s content →
+    Some item ≡ itemAt k 0 (Some (write (Proposal block (zeroSeal S) (bestBody p S (s .best))))) →
+    out′ ≡ putItem k 0 (Some (write (Proposal block (zeroSeal S) (bestBody p S (s .best))))) out →
+    Shows k (offers p s [] content) (record { word = Offered; height = 0; certificate = None; message = Some item; blame = None }) (withOffered true s) out out′
+  proposes s content block item out out′ eb ei eo =
+      let message : Block R → Option (Sending R) = λ b. Some (write (Proposal b (zeroSeal S) (bestBody p S (s .best)))) in
+      record {
+        answer-is = ap (λ (m : Option Item). record { word = Offered; height = 0; certificate = None; message = m; blame = None }) (ei ∙ ap (λ b. itemAt k 0 (message b)) eb);
+        state-is = refl;
+        outbox-is = eo ∙ ap (λ b. putItem k 0 (message b) out) eb;
+      }
