@@ -32,9 +32,9 @@ module _ {L : ℕ} {R : Type 0} (k : Kind L R) where
   -- the bytes of a lawful block tell the block
   pub bytes-tell : (a b : Block R) → LawfulBlock k a → LawfulBlock k b → blockBytes k a ≡ blockBytes k b → a ≡ b
   bytes-tell a b la lb e =
-      let fa : peelBlock k 0 0 0 (blockBytes k a ++ []) ≡ Ok (a, []) = block-forth k 0 0 0 a [] la in
-      let fb : peelBlock k 0 0 0 (blockBytes k b ++ []) ≡ Ok (b, []) = block-forth k 0 0 0 b [] lb in
-      let g : _≡_ {A = Read (Block R)} (Ok (a, [])) (Ok (b, [])) = sym fa ∙ ap (λ xs. peelBlock k 0 0 0 (xs ++ [])) e ∙ fb in
+      let fa : peelBlock k 0 (blockBytes k a ++ []) ≡ Ok (a, []) = block-forth k 0 0 0 a [] la in
+      let fb : peelBlock k 0 (blockBytes k b ++ []) ≡ Ok (b, []) = block-forth k 0 0 0 b [] lb in
+      let g : _≡_ {A = Read (Block R)} (Ok (a, [])) (Ok (b, [])) = sym fa ∙ ap (λ xs. peelBlock k 0 (xs ++ [])) e ∙ fb in
       ap (λ (p : Block R × List ℕ). p .0) (ok-same g)
 
   -- and already the numbers of its rank are told, whatever the content

@@ -60,14 +60,14 @@ unread-end total (x, []) = denies-ok Unread x
 unread-end total (x, y ∷ ys) = fails (Trailing (total - length (y ∷ ys))) (omega arith)
 
 module _ {L : ℕ} {R : Type 0} (k : Kind L R) (S n : ℕ) where
-  unread-content : (at : ℕ) (xs : List ℕ) → Denies (peelContent k S n at xs) Unread
+  unread-content : (at : ℕ) (xs : List ℕ) → Denies (peelContent k at xs) Unread
   unread-content at xs = denies-next (peel L at xs) _ (unread-peel L at xs) (λ p. by (p .1) (k .reads (p .0)))
     where
-      by : (rest : List ℕ) (o : Option R) → Denies (contentOf k S n at rest o) Unread
+      by : (rest : List ℕ) (o : Option R) → Denies (contentOf at rest o) Unread
       by rest None = fails (NoContent at) (omega arith)
       by rest (Some r) = denies-ok Unread (r, rest)
 
-  unread-block : (at : ℕ) (xs : List ℕ) → Denies (peelBlock k S n at xs) Unread
+  unread-block : (at : ℕ) (xs : List ℕ) → Denies (peelBlock k at xs) Unread
   unread-block at xs =
       denies-next (peelNumber 2 at xs) _ (unread-number 2 at xs) (λ view.
       denies-next (peelNumber 2 (at + 2) (view .1)) _ (unread-number 2 (at + 2) (view .1)) (λ turn.
@@ -75,28 +75,28 @@ module _ {L : ℕ} {R : Type 0} (k : Kind L R) (S n : ℕ) where
       denies-next (peelNumber 2 (at + 8) (height .1)) _ (unread-number 2 (at + 8) (height .1)) (λ pview.
       denies-next (peelNumber 2 (at + 10) (pview .1)) _ (unread-number 2 (at + 10) (pview .1)) (λ pturn.
       either (lawfulNumbers (view .0) (turn .0) (height .0) (pview .0) (pturn .0)) _ _
-      (denies-next (peelContent k S n (at + 12) (pturn .1)) _ (unread-content (at + 12) (pturn .1)) (λ content. denies-ok Unread _))
+      (denies-next (peelContent k (at + 12) (pturn .1)) _ (unread-content (at + 12) (pturn .1)) (λ content. denies-ok Unread _))
       (fails (BadLayout at) (omega arith)))))))
 
   unread-body : (at : ℕ) (xs : List ℕ) → Denies (peelBody k S n at xs) Unread
   unread-body at xs =
-      denies-next (peelBlock k S n at xs) _ (unread-block at xs) (λ block.
+      denies-next (peelBlock k at xs) _ (unread-block at xs) (λ block.
       denies-next (peelMask n (at + 12 + L) (block .1)) _ (unread-mask n (at + 12 + L) (block .1)) (λ mask.
       denies-next (peelSeals S (quorum n) (at + 14 + L) (mask .1)) _ (unread-seals S (quorum n) (at + 14 + L) (mask .1)) (λ seals. denies-ok Unread _)))
 
   unread-proposal : (total : ℕ) (xs : List ℕ) → Denies (readProposal k S n total xs) Unread
   unread-proposal total xs =
-      denies-next (peelBlock k S n 1 xs) _ (unread-block 1 xs) (λ block.
+      denies-next (peelBlock k 1 xs) _ (unread-block 1 xs) (λ block.
       denies-next (peel S (13 + L) (block .1)) _ (unread-peel S (13 + L) (block .1)) (λ seal.
       either (eqb (block .0 .height) 1) _ _ (unread-end total (Proposal (block .0) (seal .0) None, seal .1))
       (denies-next (peelBody k S n (13 + L + S) (seal .1)) _ (unread-body (13 + L + S) (seal .1)) (λ c.
       denies-next (ended total c) _ (unread-end total c) (λ parent.
-      either (isParent k S n (block .0) parent) _ _ (denies-ok Unread _) (fails (WrongParent (13 + L + S)) (omega arith)))))))
+      either (isParent (block .0) parent) _ _ (denies-ok Unread _) (fails (WrongParent (13 + L + S)) (omega arith)))))))
 
   unread-vote : (total : ℕ) (xs : List ℕ) → Denies (readVote k S n total xs) Unread
   unread-vote total xs =
       denies-next (peelSeat n 1 xs) _ (unread-seat n 1 xs) (λ seat.
-      denies-next (peelBlock k S n 2 (seat .1)) _ (unread-block 2 (seat .1)) (λ block.
+      denies-next (peelBlock k 2 (seat .1)) _ (unread-block 2 (seat .1)) (λ block.
       denies-next (peel S (14 + L) (block .1)) _ (unread-peel S (14 + L) (block .1)) (λ seal. unread-end total (Vote (seat .0) (block .0) (seal .0), seal .1))))
 
   unread-blame : (total : ℕ) (xs : List ℕ) → Denies (readBlame k S n total xs) Unread
