@@ -1,0 +1,2 @@
+// Who leads each view of a log, and how many seats a log may have.
+pub mod leaders;
