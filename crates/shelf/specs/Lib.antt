@@ -1,1 +1,3 @@
+pub mod Ancestry
 pub mod Blocks
+pub mod Cells

@@ -1,4 +1,5 @@
 // The messages between seats: their bytes, read and written.
 pub mod block;
 pub mod message;
+pub mod ranks;
 pub mod rows;

@@ -1,0 +1,4 @@
+pub mod Ancestry
+pub mod Cells
+pub mod Reading
+pub mod Scans

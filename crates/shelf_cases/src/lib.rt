@@ -1,0 +1,3 @@
+// Cases of shelves, with both kinds of content, as tests.
+#[cfg(test)]
+mod cases;
