@@ -1,5 +1,6 @@
 pub mod Bodies
 pub mod FirstByte
+pub mod Judging
 pub mod Keeping
 pub mod Located
 pub mod OneForm

@@ -14,15 +14,20 @@ use Rattle.std.specs.declared.result.Result.the-variants.{Ok, Err}
 use Rattle.content.specs.Kinds.{Kind, Lawful}
 use Rattle.content.specs.declared.refusal.Refusal.{Refusal}
 use Rattle.content.specs.declared.refusal.Refusal.the-variants.{BadLayout, NoContent, WrongParent}
-use Rattle.wire.specs.Lawful.{TwoBytes, FourBytes}
+use Rattle.wire.specs.Lawful.{TwoBytes}
 use Rattle.wire.specs.Layout.{lawfulNumbers}
 use Rattle.wire.specs.Masks.{lawfulMask, quorum}
 use Rattle.wire.specs.Reading.{next, isParent}
 use Rattle.wire.specs.declared.block.Block.{Block}
+use Rattle.wire.specs.declared.block.Rank.{Rank}
 use Rattle.wire.specs.declared.message.Certificate.{Certificate}
 use Rattle.wire.specs.declared.message.Message.{Message}
 use Rattle.wire.specs.declared.message.Parts.{Parts}
 use Rattle.wire.specs.declared.message.Parts.the-variants.{Proposal, Vote, Blame, Certified, Notice}
+
+-- a rank in two bytes and two
+abbrev pub RankHeld : Rank → Type 0
+RankHeld r = TwoBytes (r .view) × TwoBytes (r .turn)
 
 abbrev pub okIf : Bool → Refusal → Result Unit Refusal
 okIf test e = cond test (Ok tt) (Err e)
