@@ -1,1 +1,4 @@
 pub mod Checks
+pub mod House
+pub mod Rolls
+pub mod SipHash

@@ -7,10 +7,13 @@ ghost use Rattle.seals.specs.Checks.{SealLength, Sized};
 
 // A check whose seals have S bytes, 1 to 64.
 pub trait SealCheck<const S: usize> {
+    // S is a lawful length
     ghost lengths: { SealLength S };
+
     // for a seat, a statement and a seal: whether the seal is good
     ghost accepts: { Self → ℕ → List ℕ → List ℕ → Bool };
 
+    // a good seal has S bytes
     ghost sized: { Sized S accepts };
 
     // Whether this seal is the seat's on the statement that is the tag byte and then the body. Asking

@@ -61,12 +61,16 @@ abbrev pub ended : {X : Type 0} → (total : ℕ) → X × List ℕ → Result X
 ended total (x, []) = Ok x
 ended total (x, y ∷ ys) = Err (Trailing (total - length (y ∷ ys)))
 
-module _ {L : ℕ} {R : Type 0} (k : Kind L R) (S n : ℕ) where
-  -- content: 1 if it does not fit, 5 if the bytes are no content of the kind
-  abbrev pub contentOf : (at : ℕ) → List ℕ → Option R → Read R
-  contentOf at xs None = Err (NoContent at)
-  contentOf at xs (Some r) = Ok (r, xs)
+-- content: 1 if it does not fit, 5 if the bytes are no content of the kind
+abbrev pub contentOf : {R : Type 0} → (at : ℕ) → List ℕ → Option R → Read R
+contentOf at xs None = Err (NoContent at)
+contentOf at xs (Some r) = Ok (r, xs)
 
+-- whether a certificate is that of the parent which a block names
+abbrev pub isParent : {R T : Type 0} → Block R → Certificate R T → Bool
+isParent b c = sameRank (c .block .rank) (b .parent) && eqb (c .block .height + 1) (b .height)
+
+module _ {L : ℕ} {R : Type 0} (k : Kind L R) where
   abbrev pub peelContent : (at : ℕ) → List ℕ → Read R
   peelContent at xs = next (peel L at xs) (λ p. contentOf at (p .1) (k .reads (p .0)))
 
@@ -91,17 +95,14 @@ module _ {L : ℕ} {R : Type 0} (k : Kind L R) (S n : ℕ) where
       )))
       (Err (BadLayout at)))))))
 
+module _ {L : ℕ} {R : Type 0} (k : Kind L R) (S n : ℕ) where
   -- a certificate body: a block, a mask, the seals of its seats
   abbrev pub peelBody : (at : ℕ) → List ℕ → Read (Certificate R (List ℕ))
   peelBody at xs =
-      next (peelBlock at xs) (λ block.
+      next (peelBlock k at xs) (λ block.
       next (peelMask n (at + 12 + L) (block .1)) (λ mask.
       next (peelSeals S (quorum n) (at + 14 + L) (mask .1)) (λ seals.
       Ok (record { block = block .0; mask = mask .0; seals = seals .0 }, seals .1))))
-
-  -- whether a certificate is that of the parent which a block names
-  abbrev pub isParent : Block R → Certificate R (List ℕ) → Bool
-  isParent b c = sameRank (c .block .rank) (b .parent) && eqb (c .block .height + 1) (b .height)
 
   -- above height 1 a proposal carries the certificate of its parent
   abbrev pub proposalOf : (total : ℕ) → Block R → List ℕ → List ℕ → Result (Parts R (List ℕ)) Refusal
@@ -114,14 +115,14 @@ module _ {L : ℕ} {R : Type 0} (k : Kind L R) (S n : ℕ) where
 
   abbrev pub readProposal : (total : ℕ) → List ℕ → Result (Parts R (List ℕ)) Refusal
   readProposal total xs =
-      next (peelBlock 1 xs) (λ block.
+      next (peelBlock k 1 xs) (λ block.
       next (peel S (13 + L) (block .1)) (λ seal.
       proposalOf total (block .0) (seal .0) (seal .1)))
 
   abbrev pub readVote : (total : ℕ) → List ℕ → Result (Parts R (List ℕ)) Refusal
   readVote total xs =
       next (peelSeat n 1 xs) (λ seat.
-      next (peelBlock 2 (seat .1)) (λ block.
+      next (peelBlock k 2 (seat .1)) (λ block.
       next (peel S (14 + L) (block .1)) (λ seal.
       ended total (Vote (seat .0) (block .0) (seal .0), seal .1))))
 

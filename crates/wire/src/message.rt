@@ -1,4 +1,5 @@
 // Messages by their parts. T is how a seal, or a row of seals, is held: a part of the bytes that were read.
+ghost use mathlib.Core.Path.{_≡_};
 use crate::block::Block;
 use crate::block::BlockClone;
 
@@ -45,7 +46,16 @@ pub struct Message<'a, R> {
 }
 
 impl<'a, R> Message<'a, R> {
-    pub fn parts(&self) -> &Parts<R, &'a [u8]> {
+    // For what has been judged already.
+    pub(crate) fn of(parts: Parts<R, &'a [u8]>) -> Message<'a, R>
+        ensures { λ r. ⌜ r .parts ≡ parts .entry ⌝ }
+    {
+        Message { parts }
+    }
+
+    pub fn parts(&self) -> &Parts<R, &'a [u8]>
+        ensures { λ r. ⌜ now r ≡ now (self .entry) .parts ⌝ }
+    {
         &self.parts
     }
 }

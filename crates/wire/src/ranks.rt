@@ -2,9 +2,9 @@
 ghost use mathlib.Core.Path.{_≡_};
 ghost use Rattle.wire.specs.Layout.{sameBlock};
 ghost use Rattle.wire.specs.Ranks.{sameRank, below, atLeast, parentOf};
-use content::kind::Content;
 use crate::block::Block;
 use crate::block::Rank;
+use content::kind::Content;
 
 impl Rank {
     pub fn same(self, other: Rank) -> bool
@@ -37,7 +37,11 @@ impl<R> Block<R> {
     pub fn parent_place(&self) -> Option<Rank>
         ensures { λ r. ⌜ r ≡ parentOf (now (self .entry)) ⌝ }
     {
-        if self.height == 1 { None } else { Some(self.parent) }
+        if self.height == 1 {
+            None
+        } else {
+            Some(self.parent)
+        }
     }
 }
 
@@ -45,5 +49,6 @@ impl<R> Block<R> {
 pub fn same_block<const L: usize, C: Content<L>>(a: &Block<C::Record>, b: &Block<C::Record>) -> bool
     ensures { λ r. ⌜ r ≡ sameBlock (C·Content .kind) (now (a .entry)) (now (b .entry)) ⌝ }
 {
-    a.rank.same(b.rank) & ((a.height == b.height) & (a.parent.same(b.parent) & C::same(&a.content, &b.content)))
+    a.rank.same(b.rank)
+        & ((a.height == b.height) & (a.parent.same(b.parent) & C::same(&a.content, &b.content)))
 }

@@ -1,0 +1,12 @@
+use borrow.Author.Needs.{needs}
+use Rattle.wire.proofs.Places.{put-as, put-then}
+use Rattle.wire.proofs.writer.put_body.Needs as need
+
+pub returns : need.returns
+returns g c =
+    record {
+      bytes =
+          put-then (c .put-block-at .ensures .bytes)
+          (put-then (put-as (c .to-le-bytes .ensures) (c .put-at .ensures)) (c .put .ensures));
+      size = search needs;
+    }
