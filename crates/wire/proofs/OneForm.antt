@@ -177,3 +177,8 @@ module _ {L : ℕ} {R : Type 0} (k : Kind L R) (S n : ℕ) where
       next-forth _ (number-forth 2 1 view (spell 2 mask ++ seals) (h .0))
       (next-forth _ (mask-forth n 3 mask seals (h .1 .range) (h .1 .seats))
       (next-forth _ (at-end (λ xs. peelSeals S (quorum n) 5 xs) seals ∙ seals-forth S (quorum n) 5 seals [] (h .1 .row)) refl))
+
+  -- two different strings of bytes are never one message
+  pub one-form-apart : (xs ys : List ℕ) (m : Parts R (List ℕ)) → Bytes xs → Bytes ys → readParts k S n xs ≡ Ok m → readParts k S n ys ≡ Ok m
+      → xs ≡ ys
+  one-form-apart xs ys m h i e f = sym (one-form-back xs m h e) ∙ one-form-back ys m i f

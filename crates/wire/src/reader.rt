@@ -186,7 +186,7 @@ fn read_notice<'a, const L: usize, const S: usize, C: Content<L>>(
 }
 
 // Whether a certificate is that of the parent which a block names.
-fn is_parent<R: Copy, T: Copy>(block: &Block<R>, certificate: &Certificate<R, T>) -> bool
+pub(crate) fn is_parent<R: Copy, T: Copy>(block: &Block<R>, certificate: &Certificate<R, T>) -> bool
     ensures { λ r. ⌜ r ≡ isParent (now (block .entry)) (now (certificate .entry)) ⌝ }
 {
     let below = &certificate.block;
