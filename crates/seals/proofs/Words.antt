@@ -3,7 +3,7 @@ use Prim.Native.Nat.{ℕ, suc, _+_, _*_, _/_, _%_, _^_, _<_, _≤_}
 use native.Mathlib.Nat.{pow-le-pow-right}
 use native.Mathlib.Numerals.{add-one}
 use native.Mathlib.Omega.{arith}
-use mathlib.Core.Path.{_≡_, refl}
+use mathlib.Core.Path.{_≡_, refl, sym, ap, _∙_}
 use mathlib.Core.List.{List, _∷_}
 use lib.Dec.{lit<}
 use lib.ListN.{length, take, drop, length-drop}
@@ -34,6 +34,11 @@ pub word-again : (s t : State) (len word : ℕ) (rest front back : List ℕ) (al
 word-again s t len word rest front back all h f b w e i =
     let m = word-more s len rest h in
     cc
+
+-- after the loop
+pub word-end : (s all : State) (len part r : ℕ) (rest : List ℕ) → length rest < 8 → part ≡ number rest → absorbRest s len rest ≡ all → r ≡ finish (compress s (part + len % 256 * 2 ^ 56)) → r ≡ finish all
+word-end s all len part r rest h p i e =
+    e ∙ ap finish (ap (λ (n : ℕ). compress s (n + len % 256 * 2 ^ 56)) p ∙ sym (word-last s len rest h) ∙ i)
 
 -- the hash of a tag byte and a body: too short for a whole word, or with a first word of seven bytes beside the tag
 pub sip-short : (key body : List ℕ) (tag part r : ℕ) (s : State) → length body < 7 → s ≡ start key → part ≡ number (tag ∷ body) → r ≡ finish (compress s (part + (length body + 1) % 256 * 2 ^ 56)) → r ≡ sipHash key (tag ∷ body)

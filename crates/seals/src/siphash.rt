@@ -4,7 +4,7 @@ ghost use Prim.Native.Nat.{_+_, _*_, _%_, _^_, _<_};
 ghost use mathlib.Core.List.{_∷_};
 ghost use lib.ListN.{length};
 ghost use Rattle.content.specs.Numbers.{number};
-ghost use Rattle.seals.specs.SipHash.{sipRound, start, compress, absorbRest, finish, sipHash, rising};
+ghost use Rattle.seals.specs.SipHash.{sipRound, sipRounds, start, compress, absorbRest, finish, sipHash, rising};
 
 // The length of a key, in bytes.
 pub const KEY_LENGTH: usize = 16;
@@ -19,6 +19,7 @@ struct State {
 }
 
 impl State {
+    // The state that a key of 16 bytes begins with.
     fn new(key: &[u8]) -> State
         requires { ⌜ length (now key) ≡ 16 ⌝ }
         ensures { λ r. ⌜ r ≡ start (now (key .entry)) ⌝ }
@@ -50,6 +51,17 @@ impl State {
         }
     }
 
+    fn rounds(self, count: u8) -> State
+        ensures { λ r. ⌜ r ≡ sipRounds count self ⌝ }
+    {
+        let mut state = self;
+        for _ in 0..count {
+            state = state.round();
+        }
+        state
+    }
+
+    // Takes in a word.
     fn compress(self, word: u64) -> State
         ensures { λ r. ⌜ r ≡ compress self word ⌝ }
     {
@@ -57,11 +69,12 @@ impl State {
             v3: self.v3 ^ word,
             ..self
         };
-        let mut state = met.round().round();
+        let mut state = met.rounds(2);
         state.v0 ^= word;
         state
     }
 
+    // The answer, once every word is in.
     fn finish(self) -> u64
         ensures { λ r. ⌜ r ≡ finish self ⌝ }
     {
@@ -69,7 +82,7 @@ impl State {
             v2: self.v2 ^ 0xff,
             ..self
         };
-        let end = met.round().round().round().round();
+        let end = met.rounds(4);
         (end.v0 ^ end.v1) ^ (end.v2 ^ end.v3)
     }
 

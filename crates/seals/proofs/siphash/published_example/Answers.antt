@@ -1,7 +1,7 @@
 use mathlib.Core.Path.{refl}
-use Rattle.seals.specs.SipHash.{start, compress, finish, sipRound}
+use Rattle.seals.specs.SipHash.{sipRounds}
 use Rattle.seals.proofs.siphash.published_example.Needs as need
 
 pub returns : need.returns
-unfolding start compress finish sipRound
+unfolding sipRounds
 returns c = refl

@@ -1,5 +1,5 @@
 use native.Mathlib.Omega.{arith}
-use Rattle.seals.proofs.Words.{fits-in, word-again}
+use Rattle.seals.proofs.Words.{fits-in, word-again, word-end}
 use Rattle.seals.proofs.siphash.State.absorb.Needs as need
 
 pub loop-rest-again : need.loop-rest-again
@@ -9,3 +9,8 @@ loop-rest-again c =
 
 pub close-requires : need.close-requires
 close-requires c κs = fits-in 7 (omega arith) (c .part-word .ensures .room)
+
+pub returns : need.returns
+returns c =
+    word-end (c .loop-rest .state) _ (c .args .size) (c .part-word .result) _ (c .loop-rest .rest .now)
+    (c .loop-rest-test .left) (c .part-word .ensures .value) (c .loop-rest .inv) (c .close .ensures)
