@@ -1,26 +1,24 @@
 -- How long messages are.
-use Prim.Native.Nat.{ℕ, zero, suc, _+_, _-_, _*_, _/_, _%_, _≤_, _<_}
-use mathlib.Core.Path.{_≡_, refl, sym, ap, _∙_}
+use Prim.Native.Nat.{ℕ, _+_, _-_, _*_, _%_, _≤_}
+use mathlib.Core.Path.{_≡_, ap, _∙_}
 use mathlib.Core.Bool.{true, _&&_}
-use mathlib.Core.List.{List, [], _∷_, _++_}
+use mathlib.Core.List.{List, [], _++_}
 use native.Mathlib.Nat.{mul-le-mul}
 use native.Mathlib.Omega.{arith}
 use lib.Dec.{leb, eqb}
 use lib.ListN.{length, length-append}
 use Rattle.std.proofs.shelf.Tests.{and-parts, leb-true}
-use Rattle.std.specs.declared.option.Option.{Option}
 use Rattle.std.specs.declared.option.Option.the-variants.{Some, None}
 use Rattle.content.specs.Kinds.{Kind}
 use Rattle.content.specs.Numbers.{spell}
 use Rattle.rota.specs.Limits.{seatsLawful}
 use Rattle.wire.specs.Laws.{Sized, FitsOutbox, StudioSized}
-use Rattle.wire.specs.Lawful.{LawfulBlock, LawfulRow, LawfulBody, LawfulParts}
-use Rattle.wire.specs.Layout.{blockBytes, bodyBytes, parentBytes, messageBytes}
+use Rattle.wire.specs.Lawful.{LawfulBlock}
+use Rattle.wire.specs.Layout.{blockBytes, bodyBytes}
 use Rattle.wire.specs.Masks.{quorum}
-use Rattle.wire.specs.Writing.{bodySize, parentSize, messageSize}
+use Rattle.wire.specs.Writing.{bodySize}
 use Rattle.wire.specs.declared.block.Block.{Block}
 use Rattle.wire.specs.declared.message.Certificate.{Certificate}
-use Rattle.wire.specs.declared.message.Parts.{Parts}
 use Rattle.wire.specs.declared.message.Parts.the-variants.{Proposal, Vote, Blame, Certified, Notice}
 
 module _ {L : ℕ} {R : Type 0} (k : Kind L R) where

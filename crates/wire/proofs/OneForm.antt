@@ -1,31 +1,29 @@
 -- One byte form: what reads as a message is what writing that message gives, and a lawful message, written and read,
 -- is the same again.
-use Prim.Native.Nat.{ℕ, zero, suc, _+_, _-_, _*_, _^_, _<_, _≤_}
-use mathlib.Core.Path.{_≡_, refl, sym, ap, subst, _∙_}
-use mathlib.Core.Bool.{Bool, true, false, cond}
-use mathlib.Core.List.{List, [], _∷_, _++_, append-assoc, append-nil}
-use native.Mathlib.Omega.{arith}
-use lib.Dec.{eqb, ltb}
+use Prim.Native.Nat.{ℕ, suc, _+_, _-_}
+use mathlib.Core.Path.{_≡_, refl, sym, ap, _∙_}
+use mathlib.Core.Bool.{cond}
+use mathlib.Core.List.{List, [], _∷_, _++_, append-nil}
+use lib.Dec.{eqb}
 use lib.ListN.{length}
-use Rattle.std.specs.declared.option.Option.{Option}
 use Rattle.std.specs.declared.option.Option.the-variants.{Some, None}
 use Rattle.std.specs.declared.result.Result.{Result}
-use Rattle.std.specs.declared.result.Result.the-variants.{Ok, Err}
+use Rattle.std.specs.declared.result.Result.the-variants.{Ok}
 use Rattle.std.proofs.shelf.Tests.{eqb-true, eqb-false, eq-eqb, ne-eqb, cond-true, cond-false}
 use Rattle.content.specs.Kinds.{Kind, Bytes}
 use Rattle.content.specs.Numbers.{spell}
 use Rattle.content.specs.declared.refusal.Refusal.{Refusal}
 use Rattle.content.specs.declared.refusal.Refusal.the-variants.{UnknownKind, WrongParent, Short}
-use Rattle.wire.specs.Lawful.{LawfulBlock, LawfulRow, LawfulBody, LawfulParts, TwoBytes}
+use Rattle.wire.specs.Lawful.{LawfulBlock, LawfulBody, LawfulParts}
 use Rattle.wire.specs.Layout.{blockBytes, bodyBytes, messageBytes}
 use Rattle.wire.specs.Masks.{quorum}
-use Rattle.wire.specs.Reading.{next, Read, peel, peelNumber, peelSeat, peelMask, peelSeals, peelBlock, peelBody, ended, isParent, proposalOf, readProposal, readVote, readBlame, readCertified, readNotice, readKind, readParts}
+use Rattle.wire.specs.Reading.{peel, peelNumber, peelSeat, peelMask, peelSeals, peelBlock, peelBody, ended, isParent, proposalOf, readProposal, readVote, readBlame, readCertified, readNotice, readKind, readParts}
 use Rattle.wire.specs.declared.block.Block.{Block}
 use Rattle.wire.specs.declared.message.Certificate.{Certificate}
 use Rattle.wire.specs.declared.message.Parts.{Parts}
 use Rattle.wire.specs.declared.message.Parts.the-variants.{Proposal, Vote, Blame, Certified, Notice}
-use Rattle.wire.proofs.Steps.{Gives, gives-ok, gives-err, gives-next, gives-if, gives-either, next-forth, Peeled, peel-back, peel-forth, Spelt, number-back, number-forth}
-use Rattle.wire.proofs.Bodies.{seat-back, seat-forth, mask-back, mask-forth, seals-back, seals-forth, BlockFound, block-back, block-forth, BodyFound, body-back, body-forth}
+use Rattle.wire.proofs.Steps.{Gives, gives-ok, gives-err, gives-next, gives-if, gives-either, next-forth, peel-back, peel-forth, number-back, number-forth}
+use Rattle.wire.proofs.Bodies.{seat-back, seat-forth, mask-back, mask-forth, seals-back, seals-forth, block-back, block-forth, body-back, body-forth}
 
 -- nothing was left
 gives-ended : {X : Type 0} (Q : X → Type 0) (total : ℕ) (p : X × List ℕ) → (p .1 ≡ [] → Q (p .0)) → Gives (ended total p) Q

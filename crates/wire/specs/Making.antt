@@ -1,7 +1,6 @@
 -- Judging a message by its parts before it is made: each field in the order in which it lies, with the refusals of
 -- reading at the same offsets. A seal, or a row of seals, of another length is refused like a mask.
 use Prim.Native.Nat.{ℕ, _+_, _*_}
-use mathlib.Core.Path.{_≡_}
 use mathlib.Core.Bool.{Bool, cond, not}
 use mathlib.Core.List.{List}
 use lib.Dec.{eqb, ltb}
