@@ -4,6 +4,7 @@ pub mod Does
 pub mod HandIn
 pub mod Offer
 pub mod Parts
+pub mod Reactions
 pub mod Sends
 pub mod TakeIn
 pub mod Tick

@@ -2,6 +2,7 @@
 pub mod answer;
 pub(crate) mod handling;
 pub(crate) mod offering;
+pub(crate) mod proposing;
 pub(crate) mod sending;
 pub mod state;
 pub(crate) mod taking;
