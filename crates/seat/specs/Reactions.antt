@@ -10,7 +10,11 @@ use Rattle.wire.specs.Layout.{sameBlock}
 use Rattle.wire.specs.declared.block.Block.{Block}
 use Rattle.seat.specs.HandIn.{acceptable, acceptedAt, adds, ownBlame, slotOpen}
 use Rattle.seat.specs.Parts.{isOn, withBlamed, withNote, withSpoiled}
-use Rattle.seat.specs.Sends.{Outcome, Sending, relay}
+use Rattle.wire.specs.declared.message.Parts.the-variants.{Blame}
+use Rattle.seat.specs.Sends.{Outcome, Sending, endOf, itemAt, relay, write, zeroSeal}
+use Rattle.seat.specs.declared.answer.Answer.{Answer}
+use Rattle.seat.specs.declared.answer.Item.{Item}
+use Rattle.seat.specs.declared.answer.Item.the-variants.{Inbox}
 use Rattle.seat.specs.declared.answer.Word.{Word}
 use Rattle.seat.specs.declared.answer.Word.the-variants.{Accepted as SaysAccepted, Clash as SaysClash, Noted as SaysNoted}
 use Rattle.seat.specs.declared.proposing.Reaction.{Reaction}
@@ -62,3 +66,25 @@ module _ {S : ℕ} {R : Type 0} (p : Terms) where
   applied o note Accepted = adds o SaysAccepted (Some relay) None (reacted (o .state) note Accepted)
   applied o note Clash = adds o SaysClash (Some relay) None (reacted (o .state) note Clash)
   applied o note ClashAndBlame = adds o SaysClash (Some relay) (Some (ownBlame p (o .state))) (reacted (o .state) note ClashAndBlame)
+
+-- the blame that a reaction sends
+abbrev pub blamesBy : {R : Type 0} → (S : ℕ) → Terms → (view : ℕ) → Reaction → Option (Sending R)
+blamesBy S p view Nothing = None
+blamesBy S p view Noted = None
+blamesBy S p view Accepted = None
+blamesBy S p view Clash = None
+blamesBy S p view ClashAndBlame = Some (write (Blame (p .own) view (zeroSeal S)))
+
+-- the answer to a proposal, from the one to its parent's certificate
+module _ {L : ℕ} {R : Type 0} (k : Kind L R) where
+  abbrev pub says : Answer → Word → Option Item → Option (Sending R) → Answer
+  says a word message blame = record {
+      word = word; height = a .height; certificate = a .certificate; message = message;
+      blame = itemAt k (endOf (a .certificate)) blame }
+
+  abbrev pub responded : Answer → Option (Sending R) → Reaction → Answer
+  responded a blame Nothing = a
+  responded a blame Noted = record { word = SaysNoted; height = a .height; certificate = a .certificate; message = a .message; blame = a .blame }
+  responded a blame Accepted = record { word = SaysAccepted; height = a .height; certificate = a .certificate; message = Some Inbox; blame = a .blame }
+  responded a blame Clash = record { word = SaysClash; height = a .height; certificate = a .certificate; message = Some Inbox; blame = a .blame }
+  responded a blame ClashAndBlame = says a SaysClash (Some Inbox) blame

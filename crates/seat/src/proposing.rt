@@ -2,14 +2,26 @@
 ghost use mathlib.Core.Path.{_≡_};
 ghost use mathlib.Core.Bool.{cond, not, _&&_};
 ghost use Rattle.seat.specs.HandIn.{acceptable, atSlot, slotOpen};
+ghost use Prim.Native.Nat.{_+_, _≤_};
+ghost use lib.ListN.{length};
+ghost use Rattle.std.specs.declared.option.Option.the-variants.{Some};
 ghost use Rattle.seat.specs.Parts.{isOn};
-ghost use Rattle.seat.specs.Reactions.{accepting, clashing, fresh, reacted};
+ghost use Rattle.seat.specs.Reactions.{accepting, blamesBy, clashing, fresh, meets, noteOr, reacted, reaction, responded};
+ghost use Rattle.seat.specs.Sends.{endOf, putItem};
 ghost use Rattle.seat.specs.declared.proposing.Reaction.the-variants.{Accepted, Noted};
+use crate::answer::Answer;
+use crate::answer::Item;
+use crate::answer::Word;
+use crate::sending::end_of;
+use crate::sending::put_blame;
 use crate::state::Note;
 use crate::state::Phase;
 use crate::state::State;
+use crate::state::Terms;
+use content::kind::Content;
 use wire::block::Block;
 use wire::ranks::at_least;
+use wire::ranks::same_block;
 
 // What a proposal does to a seat.
 #[derive(Clone, Copy, PartialEq, Eq)]
@@ -103,4 +115,81 @@ fn first<const S: usize, R: Copy>(state: &mut State<S, R>, block: &Block<R>) -> 
     }
     state.accept(note);
     Reaction::Accepted
+}
+
+// The slot has a note: this is the same proposal again, or a clash.
+fn again<const L: usize, const S: usize, C: Content<L>>(
+    state: &mut State<S, C::Record>,
+    note: Note<C::Record>,
+    block: &Block<C::Record>,
+) -> Reaction
+    ensures reaction { λ r. ⌜ r ≡ meets (C·Content .kind) (now (state .entry)) (now (block .entry)) (Some note) ⌝ }
+    ensures state { λ _. ⌜ now (state .exit) ≡ reacted (now (state .entry)) note (meets (C·Content .kind) (now (state .entry)) (now (block .entry)) (Some note)) ⌝ }
+{
+    if !same_block::<L, C>(&note.block, block) {
+        return state.clash();
+    }
+    if !state.accepting(&note) {
+        return Reaction::Nothing;
+    }
+    state.accept(note);
+    Reaction::Accepted
+}
+
+// What a proposal does to the seat.
+fn react<const L: usize, const S: usize, C: Content<L>>(
+    state: &mut State<S, C::Record>,
+    block: &Block<C::Record>,
+) -> Reaction
+    ensures reaction { λ r. ⌜ r ≡ reaction (C·Content .kind) (now (state .entry)) (now (block .entry)) ⌝ }
+    ensures state { λ _. ⌜ now (state .exit) ≡ reacted (now (state .entry)) (noteOr (now (block .entry)) (now (state .entry) .round .note)) (reaction (C·Content .kind) (now (state .entry)) (now (block .entry))) ⌝ }
+{
+    if !state.slot_open(block) {
+        return Reaction::Nothing;
+    }
+    match state.round.note {
+        None => first(state, block),
+        Some(note) => again::<L, S, C>(state, note, block),
+    }
+}
+
+// The answer to a proposal, from the one to its parent's certificate; a blame is written behind that certificate.
+fn respond<const L: usize, const S: usize, C: Content<L>>(
+    terms: &Terms,
+    view: u16,
+    answer: Answer,
+    reaction: Reaction,
+    outbox: &mut [u8],
+) -> Answer
+    requires { ⌜ endOf (answer .certificate) + (4 + S) ≤ length (now outbox) ⌝ }
+    ensures answer { λ r. ⌜ r ≡ responded (C·Content .kind) answer (blamesBy S (now (terms .entry)) view reaction) reaction ⌝ }
+    ensures outbox { λ _. ⌜ now (outbox .exit) ≡ putItem (C·Content .kind) (endOf (answer .certificate)) (blamesBy S (now (terms .entry)) view reaction) (now (outbox .entry)) ⌝ }
+{
+    match reaction {
+        Reaction::Nothing => answer,
+        Reaction::Noted => Answer {
+            word: Word::Noted,
+            ..answer
+        },
+        Reaction::Accepted => Answer {
+            word: Word::Accepted,
+            message: Some(Item::Inbox),
+            ..answer
+        },
+        Reaction::Clash => Answer {
+            word: Word::Clash,
+            message: Some(Item::Inbox),
+            ..answer
+        },
+        Reaction::ClashAndBlame => {
+            let from = end_of(&answer.certificate);
+            let blame = Some(put_blame::<L, S, C>(terms, view, outbox, from));
+            Answer {
+                word: Word::Clash,
+                message: Some(Item::Inbox),
+                blame,
+                ..answer
+            }
+        }
+    }
 }
