@@ -5,6 +5,7 @@ pub mod Ballots
 pub mod Basics
 pub mod Carried
 pub mod Cases
+pub mod Checker
 pub mod Clash
 pub mod Commits
 pub mod Delivery
@@ -21,7 +22,9 @@ pub mod OneStep
 pub mod Primed
 pub mod Proposals
 pub mod Quorum
+pub mod Probe
 pub mod Refusals
+pub mod Replay
 pub mod Rounds
 pub mod Sane
 pub mod Sent

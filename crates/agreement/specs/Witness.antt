@@ -1,0 +1,135 @@
+-- A run with a cheat in it: three seats, of which seat 0 hands two proposals of one rank to the others; they clash, leave
+-- the view, and commit a block of the next. And two histories beside it that are no runs.
+use Prim.Native.Nat.{ℕ, _+_, _<_}
+use mathlib.Core.Path.{_≡_, refl}
+use mathlib.Core.Bool.{Bool, true, false, cond, _||_}
+use mathlib.Core.List.{List, [], _∷_, _++_}
+use native.Mathlib.Omega.{arith}
+use lib.Dec.{eqb}
+use lib.ListN.{length}
+use Rattle.std.specs.declared.option.Option.{Option}
+use Rattle.std.specs.declared.option.Option.the-variants.{Some, None}
+use Rattle.std.specs.declared.result.Result.the-variants.{Ok}
+use Rattle.std.specs.shelf.Text.{sameBytes}
+use Rattle.content.specs.Kinds.{Bytes, Kind}
+use Rattle.wire.specs.Layout.{messageBytes}
+use Rattle.wire.specs.declared.block.Block.{Block}
+use Rattle.wire.specs.declared.message.Parts.the-variants.{Proposal, Vote, Blame, Notice}
+use Rattle.seat.specs.declared.state.Terms.{Terms}
+use Rattle.agreement.specs.History.{Call, Event, History, hand, offer, sent, tick}
+use Rattle.agreement.specs.Setting.{Setting}
+
+-- contents of one byte
+abbrev pub readByte : List ℕ → Option ℕ
+readByte [] = None
+readByte (x ∷ []) = Some x
+readByte (x ∷ (y ∷ ys)) = None
+
+pub byte-sized : (xs : List ℕ) (r : ℕ) → readByte xs ≡ Some r → length xs ≡ 1
+byte-sized [] r e = absurd (let z : _≡_ {A = ℕ} 0 1 = cc in omega arith)
+byte-sized (x ∷ []) r e = refl
+byte-sized (x ∷ (y ∷ ys)) r e = absurd (let z : _≡_ {A = ℕ} 0 1 = cc in omega arith)
+
+pub byte-back : (xs : List ℕ) (r : ℕ) → Bytes xs → readByte xs ≡ Some r → r ∷ [] ≡ xs
+byte-back [] r b e = absurd (let z : _≡_ {A = ℕ} 0 1 = cc in omega arith)
+byte-back (x ∷ []) r b e = cc
+byte-back (x ∷ (y ∷ ys)) r b e = absurd (let z : _≡_ {A = ℕ} 0 1 = cc in omega arith)
+
+abbrev pub oneByte : Kind 1 ℕ
+oneByte = record {
+  reads = readByte;
+  shown = λ r. r ∷ [];
+  low = omega arith;
+  high = omega arith;
+  sized = byte-sized;
+  back = byte-back;
+}
+
+-- what both sound seats are made from
+abbrev pub termsOf : ℕ → Terms
+termsOf i = record { seats = record { n = 3; lawful = refl }; own = i; delta = 1; patience = 100 }
+
+-- Seat 0 leads view 0 and is not sound; seats 1 and 2 are, and seat 1 leads the other views. A seal of a seat is the one
+-- byte of its number and one.
+abbrev pub three : Setting
+three = record {
+  n = 3;
+  delta = 1;
+  leader = λ view. cond (eqb view 0) 0 1;
+  accepts = λ seat statement seal. sameBytes seal ((seat + 1) ∷ []);
+  sound = λ i. eqb i 1 || eqb i 2;
+  terms = termsOf;
+  cells = λ i. 4;
+}
+
+-- the first block of a view
+abbrev pub firstOf : ℕ → ℕ → Block ℕ
+firstOf view content = record { rank = record { view = view; turn = 0 }; height = 1; parent = record { view = 0; turn = 0 }; content = content }
+
+-- two blocks of one rank, from the cheat; one block from seat 1
+abbrev pub left : Block ℕ
+left = firstOf 0 65
+
+abbrev pub right : Block ℕ
+right = firstOf 0 66
+
+abbrev pub good : Block ℕ
+good = firstOf 1 67
+
+-- messages, sealed
+abbrev pub proposalOf : Block ℕ → ℕ → List ℕ
+proposalOf b seal = messageBytes oneByte (Proposal b (seal ∷ []) None)
+
+abbrev pub voteOf : ℕ → ℕ → List ℕ
+voteOf i seal = messageBytes oneByte (Vote i good (seal ∷ []))
+
+abbrev pub blameOf : ℕ → ℕ → List ℕ
+blameOf i seal = messageBytes oneByte (Blame i 0 (seal ∷ []))
+
+abbrev pub noticeOf : List ℕ
+noticeOf = messageBytes oneByte (Notice 0 6 (2 ∷ (3 ∷ [])))
+
+-- a call at a seat, after which the slip is taken back
+abbrev pub calls : ℕ → Call → History → History
+calls i c h = record { who = i; what = sent } ∷ (record { who = i; what = c } ∷ h)
+
+abbrev pub hands : ℕ → List ℕ → History → History
+hands i m = calls i (hand m 1024)
+
+-- a message is handed to both sound seats
+abbrev pub both : List ℕ → History → History
+both m h = hands 2 m (hands 1 m h)
+
+-- a tick of both
+abbrev pub ticks : History → History
+ticks h =
+    record { who = 2; what = sent } ∷ (record { who = 1; what = sent } ∷
+    (record { who = 2; what = tick 1024 } ∷ (record { who = 1; what = tick 1024 } ∷ h)))
+
+-- seat 0 cheats: each of the others is handed a proposal of its own
+unfoldable pub cheated : History → History
+cheated h = hands 2 (proposalOf right 1) (hands 1 (proposalOf left 1) h)
+
+-- they pass both on, clash, blame the view and leave it
+unfoldable pub clashed : History → History
+clashed h = both (proposalOf right 1) (both (proposalOf left 1) (both (proposalOf right 1) (both (proposalOf left 1) h)))
+
+unfoldable pub blamed : History → History
+blamed h = both (blameOf 2 3) (both (blameOf 1 2) h)
+
+unfoldable pub noticed : History → History
+noticed h = both noticeOf h
+
+-- after 3 ticks they enter view 1, after 3 more seat 1 offers its block
+unfoldable pub waited : History → History
+waited h = ticks (ticks (ticks (ticks (ticks (ticks h)))))
+
+unfoldable pub offered : History → History
+offered h = both (proposalOf good 2) (both (proposalOf good 2) (calls 1 (offer (67 ∷ []) 1024) h))
+
+-- after 2 ticks they vote, and both commit it
+unfoldable pub voted : History → History
+voted h = both (voteOf 2 3) (both (voteOf 1 2) (ticks (ticks h)))
+
+unfoldable pub story : History
+story = voted (offered (waited (noticed (blamed (clashed (cheated []))))))
