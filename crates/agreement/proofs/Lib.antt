@@ -33,6 +33,7 @@ pub mod Shelves
 pub mod Statements
 pub mod Steps
 pub mod Sync
+pub mod Tested
 pub mod Time
 pub mod Unread
 pub mod Verdicts

@@ -1,6 +1,6 @@
 -- A run with a cheat in it: three seats, of which seat 0 hands two proposals of one rank to the others; they clash, leave
 -- the view, and commit a block of the next. And two histories beside it that are no runs.
-use Prim.Native.Nat.{ℕ, _+_, _<_}
+use Prim.Native.Nat.{ℕ, _+_}
 use mathlib.Core.Path.{_≡_, refl}
 use mathlib.Core.Bool.{Bool, true, false, cond, _||_}
 use mathlib.Core.List.{List, [], _∷_, _++_}
@@ -9,15 +9,17 @@ use lib.Dec.{eqb}
 use lib.ListN.{length}
 use Rattle.std.specs.declared.option.Option.{Option}
 use Rattle.std.specs.declared.option.Option.the-variants.{Some, None}
-use Rattle.std.specs.declared.result.Result.the-variants.{Ok}
 use Rattle.std.specs.shelf.Text.{sameBytes}
 use Rattle.content.specs.Kinds.{Bytes, Kind}
 use Rattle.wire.specs.Layout.{messageBytes}
 use Rattle.wire.specs.declared.block.Block.{Block}
 use Rattle.wire.specs.declared.message.Parts.the-variants.{Proposal, Vote, Blame, Notice}
 use Rattle.seat.specs.declared.state.Terms.{Terms}
-use Rattle.agreement.specs.History.{Call, Event, History, hand, offer, sent, tick}
-use Rattle.agreement.specs.Setting.{Setting}
+use Rattle.seat.specs.declared.answer.Word.the-variants.{Clash}
+use Rattle.agreement.specs.Committed.{Committed}
+use Rattle.agreement.specs.History.{Always, Call, Did, Event, History, Once, hand, offer, sent, tick}
+use Rattle.agreement.specs.Run.{Driven, Honest, Run, StepAt, Timely}
+use Rattle.agreement.specs.Setting.{Lawful, Setting}
 
 -- contents of one byte
 abbrev pub readByte : List ℕ → Option ℕ
@@ -133,3 +135,38 @@ voted h = both (voteOf 2 3) (both (voteOf 1 2) (ticks (ticks h)))
 
 unfoldable pub story : History
 story = voted (offered (waited (noticed (blamed (clashed (cheated []))))))
+
+-- the same, but that the notice which ended view 0 is not handed to seat 1
+unfoldable pub late : History
+late = voted (offered (waited (hands 2 noticeOf (blamed (clashed (cheated []))))))
+
+-- the same, but that seat 1 is first handed a vote of seat 2 which seat 2 has not sent
+unfoldable pub forged : History
+forged = voted (offered (waited (noticed (blamed (clashed (cheated (hands 1 (voteOf 2 3) [])))))))
+
+-- a sound seat met two proposals of one rank
+abbrev pub Clashes : ℕ → History → Type 0
+Clashes i h = Once (λ e p. (e .who ≡ i) × Did 1 oneByte three (λ o. o .word ≡ Clash) e p) h
+
+-- what a run asks of each call, apart: that it is driven and in step, that all is delivered in time, that seals are honest
+abbrev pub InStep : Event → History → Type 0
+InStep e h = Driven 1 oneByte three e h × StepAt 1 oneByte three (e .who) (e .what) h
+
+abbrev pub InTime : Event → History → Type 0
+InTime e h = Timely 1 oneByte three (e ∷ h)
+
+-- Agreement speaks of something: there is a run in which a seat cheats, the sound ones see it, and they commit a block
+-- all the same. And a run is more than a list: without timely delivery, or without honest seals, it is none.
+pub record Witness : Type 0 where
+  pub lawful : Lawful three
+  pub a-run : Run 1 oneByte three story
+  pub clash-at-one : Clashes 1 story
+  pub clash-at-two : Clashes 2 story
+  pub commit-at-one : Committed 1 oneByte three story 1 good
+  pub commit-at-two : Committed 1 oneByte three story 2 good
+  pub late-in-step : Always InStep late
+  pub late-honest : Always (Honest 1 oneByte three) late
+  pub late-is-none : Run 1 oneByte three late → ⊥
+  pub forged-in-step : Always InStep forged
+  pub forged-in-time : Always InTime forged
+  pub forged-is-none : Run 1 oneByte three forged → ⊥
