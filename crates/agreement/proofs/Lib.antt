@@ -22,7 +22,6 @@ pub mod OneStep
 pub mod Primed
 pub mod Proposals
 pub mod Quorum
-pub mod Probe
 pub mod Refusals
 pub mod Replay
 pub mod Rounds
@@ -39,3 +38,4 @@ pub mod Unread
 pub mod Verdicts
 pub mod Votes
 pub mod Whole
+pub mod Witness

@@ -60,7 +60,7 @@ passes-is : (f : Outcome 1 ℕ → Bool) (x : Result (Outcome 1 ℕ) Refusal) �
 passes-is f (Ok o) e = (o, refl, e)
 passes-is f (Err r) e = absurd (true-false (sym e))
 
-did-is : (f : Outcome 1 ℕ → Bool) (P : Outcome 1 ℕ → Type 0) → ((o : Outcome 1 ℕ) → f o ≡ true → P o) → (e : Event) (h : History) → Sound three (e .who) →
+pub did-is : (f : Outcome 1 ℕ → Bool) (P : Outcome 1 ℕ → Type 0) → ((o : Outcome 1 ℕ) → f o ≡ true → P o) → (e : Event) (h : History) → Sound three (e .who) →
     passes f (stamp e (trace h) .answer) ≡ true → Did 1 oneByte three P e h
 did-is f P is e h s ok =
     let a = passes-is f (stamp e (trace h) .answer) ok in
