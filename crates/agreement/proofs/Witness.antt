@@ -22,7 +22,7 @@ use Rattle.wire.specs.declared.message.Parts.the-variants.{Proposal, Vote, Blam
 use Rattle.shelf.specs.Blocks.{find, topTurn}
 use Rattle.seat.specs.Sends.{Outcome, Sending, sendingBytes}
 use Rattle.agreement.specs.History.{Call, Event, History, Is, Once, Sends, clock, hand, offer, sent, tick}
-use Rattle.agreement.specs.Run.{Hands, Run, Sealed, bare}
+use Rattle.agreement.specs.Run.{Hands, Run, Sealed, Timely, bare}
 use Rattle.agreement.specs.Setting.{Lawful, Sound}
 use Rattle.agreement.specs.Witness.{Witness, blameOf, blamed, both, calls, cheated, clashed, forged, good, hands, late, left, noticeOf, noticed, offered, oneByte, proposalOf, right, story, three, voteOf, voted, waited}
 use Rattle.agreement.proofs.Basics.{true-false}
@@ -85,3 +85,194 @@ story-runs : Run 1 oneByte three story
 story-runs =
     let all = all-sound story story-steps in
     run-is story (in-step story story-steps) (in-time table sealed story all story-timely) (honest-all story all story-honest)
+
+one-clashes : some (clashesAt 1) (trace story) ≡ true
+unfolding computed
+one-clashes = refl
+
+two-clashes : some (clashesAt 2) (trace story) ≡ true
+unfolding computed
+two-clashes = refl
+
+one-commits : some (commitsAt 1 good) (trace story) ≡ true
+unfolding computed
+one-commits = refl
+
+two-commits : some (commitsAt 2 good) (trace story) ≡ true
+unfolding computed
+two-commits = refl
+
+-- A message is told from another by its kind.
+kindOf : Parts ℕ (List ℕ) → ℕ
+kindOf (Proposal b seal parent) = 1
+kindOf (Vote i b seal) = 2
+kindOf (Blame i view seal) = 3
+kindOf (Certified c) = 4
+kindOf (Notice view mask seals) = 5
+
+kind-bare : (m : Parts ℕ (List ℕ)) → kindOf (bare m) ≡ kindOf m
+unfolding kindOf
+kind-bare (Proposal b seal parent) = refl
+kind-bare (Vote i b seal) = refl
+kind-bare (Blame i view seal) = refl
+kind-bare (Certified c) = refl
+kind-bare (Notice view mask seals) = refl
+
+abbrev unlike : Result (Parts ℕ (List ℕ)) Refusal → Result (Parts ℕ (List ℕ)) Refusal → Bool
+unlike (Ok a) (Ok b) = not (eqb (kindOf a) (kindOf b))
+unlike (Ok a) (Err r) = true
+unlike (Err q) (Ok b) = true
+unlike (Err q) (Err r) = true
+
+not-sealed : (m inbox : List ℕ) → unlike (readParts oneByte 1 3 m) (readParts oneByte 1 3 inbox) ≡ true → Sealed 1 oneByte three m inbox → ⊥
+not-sealed m inbox ok s =
+    let a = s .sent-as in
+    let b = s .came-as in
+    let x : not (eqb (kindOf a) (kindOf b)) ≡ true = subst₂ (λ y z. unlike y z ≡ true) (s .item-reads) (s .inbox-reads) ok in
+    let same : kindOf a ≡ kindOf b = sym (kind-bare a) ∙ (ap kindOf (s .alike) ∙ kind-bare b) in
+    true-false (sym x ∙ not-from-true (eqb (kindOf a) (kindOf b)) (eq-eqb (kindOf a) (kindOf b) same))
+
+abbrev handsNot : List ℕ → Call → Bool
+handsNot m (hand inbox room) = unlike (readParts oneByte 1 3 m) (readParts oneByte 1 3 inbox)
+handsNot m (tick room) = true
+handsNot m (offer content room) = true
+handsNot m sent = true
+
+not-hands : (m : List ℕ) (c : Call) → handsNot m c ≡ true → Hands 1 oneByte three m c → ⊥
+not-hands m (hand inbox room) ok x = not-sealed m inbox ok x
+not-hands m (tick room) ok x = x
+not-hands m (offer content room) ok x = x
+not-hands m sent ok x = x
+
+-- no call of these hands m to j
+abbrev undelivered : ℕ → List ℕ → History → Bool
+undelivered j m [] = true
+undelivered j m (e ∷ q) = (not (eqb (e .who) j) || handsNot m (e .what)) && undelivered j m q
+
+not-delivered : (j : ℕ) (m : List ℕ) (q : History) → undelivered j m q ≡ true → Once (λ x _. (x .who ≡ j) × Hands 1 oneByte three m (x .what)) q → ⊥
+not-delivered j m [] ok x = x
+not-delivered j m (e ∷ q) ok (inl x) =
+    let a = and-parts (not (eqb (e .who) j) || handsNot m (e .what)) (undelivered j m q) ok in
+    elim (or-cases (not (eqb (e .who) j)) (handsNot m (e .what)) (a .0)) [
+      | inl y ↦ true-false (sym y ∙ not-from-true (eqb (e .who) j) (eq-eqb (e .who) j (x .0)))
+      | inr y ↦ not-hands m (e .what) y (x .1)
+    ]
+not-delivered j m (e ∷ q) ok (inr x) =
+    not-delivered j m q (and-parts (not (eqb (e .who) j) || handsNot m (e .what)) (undelivered j m q) ok .1) x
+
+-- the message among the items of a call
+abbrev isItem : List ℕ → List ℕ → Option (Sending ℕ) → Bool
+isItem inbox m None = false
+isItem inbox m (Some s) = sameBytes (sendingBytes oneByte inbox s) m
+
+item-is : (inbox m : List ℕ) (x : Option (Sending ℕ)) → isItem inbox m x ≡ true → Is 1 oneByte three inbox m x
+item-is inbox m None ok = true-false (sym ok)
+item-is inbox m (Some s) ok = sameBytes-decides (sendingBytes oneByte inbox s) m .0 ok
+
+-- Seat 1 sends the notice when it is handed the second blame.
+leaving : Event
+leaving = record { who = 1; what = hand (blameOf 2 3) 1024 }
+
+before : History
+before = both (blameOf 1 2) (clashed (cheated []))
+
+since : History
+since = voted (offered (waited (hands 2 noticeOf (hands 2 (blameOf 2 3) (record { who = 1; what = sent } ∷ [])))))
+
+notice-item : Outcome 1 ℕ → Bool
+notice-item o = isItem (blameOf 2 3) noticeOf (o .sends .message)
+
+leaving-passes : passes notice-item (stamp leaving (trace before) .answer) ≡ true
+unfolding computed leaving before notice-item
+leaving-passes = refl
+
+notice-sent : Sends 1 oneByte three noticeOf leaving before
+unfolding leaving notice-item
+notice-sent =
+    did-is notice-item (λ o. Is 1 oneByte three (blameOf 2 3) noticeOf (o .sends .certificate) ⊎ (Is 1 oneByte three (blameOf 2 3) noticeOf (o .sends .message) ⊎
+        Is 1 oneByte three (blameOf 2 3) noticeOf (o .sends .blame))) (λ o x. inr (inl (item-is (blameOf 2 3) noticeOf (o .sends .message) x)))
+        leaving before refl leaving-passes
+
+late-split : late ≡ since ++ (leaving ∷ before)
+unfolding computed leaving before since
+late-split = refl
+
+late-over : nowOf 1 (trace (leaving ∷ before)) + 1 < nowOf 1 (trace late)
+unfolding computed leaving before
+late-over = lit< tt
+
+notice-lost : undelivered 1 noticeOf since ≡ true
+unfolding computed since kindOf
+notice-lost = refl
+
+late-steps : every isInStep (trace late) ≡ true
+unfolding computed
+late-steps = refl
+
+late-honest : every isHonest (trace late) ≡ true
+unfolding computed
+late-honest = refl
+
+late-untimely : Timely 1 oneByte three late → ⊥
+unfolding leaving
+late-untimely timely =
+    let over : clock 1 oneByte three 1 (leaving ∷ before) + 1 < clock 1 oneByte three 1 late =
+        subst₂ (λ (a b : ℕ). a + 1 < b) (sym (clock-is 1 refl (leaving ∷ before))) (sym (clock-is 1 refl late)) late-over in
+    not-delivered 1 noticeOf since notice-lost (timely since leaving before late-split noticeOf notice-sent 1 refl over 1 refl)
+
+-- the newest moment of a run is timely
+run-timely : (e : Event) (h : History) → Run 1 oneByte three (e ∷ h) → Timely 1 oneByte three (e ∷ h)
+run-timely e h run = run .0 .timely
+
+late-is-none : Run 1 oneByte three late → ⊥
+unfolding late voted
+late-is-none run = late-untimely (run-timely _ _ run)
+
+-- The vote that seat 2 has not sent is the first call.
+forging : Event
+forging = record { who = 1; what = hand (voteOf 2 3) 1024 }
+
+after-forging : History
+after-forging = voted (offered (waited (noticed (blamed (clashed (cheated (record { who = 1; what = sent } ∷ [])))))))
+
+forged-split : forged ≡ after-forging ++ (forging ∷ [])
+unfolding computed forging after-forging
+forged-split = refl
+
+forging-reads : readParts oneByte 1 3 (voteOf 2 3) ≡ Ok (Vote 2 good (3 ∷ []))
+unfolding computed
+forging-reads = refl
+
+forged-is-none : Run 1 oneByte three forged → ⊥
+unfolding forging
+forged-is-none run =
+    let first : Run 1 oneByte three (forging ∷ []) =
+        run-tail 1 oneByte three after-forging (forging ∷ []) (subst (Run 1 oneByte three) forged-split run) in
+    first .0 .honest (Vote 2 good (3 ∷ [])) forging-reads .0 refl refl
+
+forged-steps : every isInStep (trace forged) ≡ true
+unfolding computed
+forged-steps = refl
+
+forged-timely : every (λ s t. isTimely table (s ∷ t)) (trace forged) ≡ true
+unfolding computed table
+forged-timely = refl
+
+-- the whole
+pub witness : Witness
+witness =
+    let all = all-sound story story-steps in
+    record {
+      lawful = lawful;
+      a-run = story-runs;
+      clash-at-one = clashes 1 story all one-clashes;
+      clash-at-two = clashes 2 story all two-clashes;
+      commit-at-one = commits 1 good story all one-commits;
+      commit-at-two = commits 2 good story all two-commits;
+      late-in-step = in-step late late-steps;
+      late-honest = honest-all late (all-sound late late-steps) late-honest;
+      late-is-none = late-is-none;
+      forged-in-step = in-step forged forged-steps;
+      forged-in-time = in-time table sealed forged (all-sound forged forged-steps) forged-timely;
+      forged-is-none = forged-is-none;
+    }
