@@ -17,6 +17,7 @@ use Rattle.content.specs.declared.refusal.Refusal.{Refusal}
 use Rattle.wire.specs.Asked.{rowAsked}
 use Rattle.wire.specs.Masks.{ones}
 use Rattle.wire.specs.Reading.{readParts, sealsFit}
+use Rattle.wire.specs.declared.block.Block.{Block}
 use Rattle.wire.specs.declared.message.Parts.{Parts}
 use Rattle.wire.specs.declared.message.Parts.the-variants.{Proposal, Vote, Blame, Certified, Notice}
 use Rattle.shelf.specs.Blocks.{find, topTurn}
@@ -24,7 +25,7 @@ use Rattle.seat.specs.Sends.{Outcome, Sending, sendingBytes}
 use Rattle.agreement.specs.History.{Call, Event, History, Is, Once, Sends, clock, hand, offer, sent, tick}
 use Rattle.agreement.specs.Run.{Hands, Run, Sealed, Timely, bare}
 use Rattle.agreement.specs.Setting.{Lawful, Sound}
-use Rattle.agreement.specs.Witness.{Witness, blameOf, blamed, both, calls, cheated, clashed, forged, good, hands, late, left, noticeOf, noticed, offered, oneByte, proposalOf, right, story, three, voteOf, voted, waited}
+use Rattle.agreement.specs.Witness.{Proposed, Witness, blameOf, blamed, both, calls, cheated, clashed, forged, good, hands, late, left, noticeOf, noticed, offered, oneByte, proposalOf, right, story, three, voteOf, voted, waited}
 use Rattle.agreement.proofs.Basics.{true-false}
 use Rattle.agreement.proofs.Checker.{AllSealed, Table, isTimely}
 use Rattle.agreement.proofs.Replay.{clock-is, nowOf, sound-is, stamp, trace}
@@ -85,6 +86,32 @@ story-runs : Run 1 oneByte three story
 story-runs =
     let all = all-sound story story-steps in
     run-is story (in-step story story-steps) (in-time table sealed story all story-timely) (honest-all story all story-honest)
+
+-- the first two calls hand in the two proposals
+after-both : History
+after-both = voted (offered (waited (noticed (blamed (clashed [])))))
+
+both-split : story ≡ after-both ++ cheated []
+unfolding computed after-both
+both-split = refl
+
+to-one : Proposed 1 left (cheated [])
+unfolding computed
+to-one = inr (inr (inr (inl (refl, (1 ∷ [], refl, refl)))))
+
+to-two : Proposed 2 right (cheated [])
+unfolding computed
+to-two = inr (inl (refl, (1 ∷ [], refl, refl)))
+
+once-since : (P : Event → History → Type 0) (q p : History) → Once P p → Once P (q ++ p)
+once-since P [] p x = x
+once-since P (e ∷ q) p x = inr (once-since P q p x)
+
+proposed-since : (i : ℕ) (b : Block ℕ) → Proposed i b (cheated []) → Proposed i b story
+proposed-since i b x = subst (Proposed i b) (sym both-split) (once-since _ after-both (cheated []) x)
+
+contents-differ : left ≡ right → ⊥
+contents-differ e = let z : _≡_ {A = ℕ} 65 66 = ap (λ (b : Block ℕ). b .content) e in omega arith
 
 one-clashes : some (clashesAt 1) (trace story) ≡ true
 unfolding computed
@@ -265,6 +292,11 @@ witness =
     record {
       lawful = lawful;
       a-run = story-runs;
+      cheat-leads = λ s. true-false (sym s);
+      one-rank = refl;
+      two-blocks = contents-differ;
+      left-to-one = proposed-since 1 left to-one;
+      right-to-two = proposed-since 2 right to-two;
       clash-at-one = clashes 1 story all one-clashes;
       clash-at-two = clashes 2 story all two-clashes;
       commit-at-one = commits 1 good story all one-commits;

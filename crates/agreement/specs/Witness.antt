@@ -9,17 +9,20 @@ use lib.Dec.{eqb}
 use lib.ListN.{length}
 use Rattle.std.specs.declared.option.Option.{Option}
 use Rattle.std.specs.declared.option.Option.the-variants.{Some, None}
+use Rattle.std.specs.declared.result.Result.the-variants.{Ok}
 use Rattle.std.specs.shelf.Text.{sameBytes}
 use Rattle.content.specs.Kinds.{Bytes, Kind}
+use Rattle.wire.specs.Asked.{asked, judge}
 use Rattle.wire.specs.Layout.{messageBytes}
+use Rattle.wire.specs.Reading.{readParts}
 use Rattle.wire.specs.declared.block.Block.{Block}
 use Rattle.wire.specs.declared.message.Parts.the-variants.{Proposal, Vote, Blame, Notice}
 use Rattle.seat.specs.declared.state.Terms.{Terms}
 use Rattle.seat.specs.declared.answer.Word.the-variants.{Clash}
 use Rattle.agreement.specs.Committed.{Committed}
-use Rattle.agreement.specs.History.{Always, Call, Did, Event, History, Once, hand, offer, sent, tick}
+use Rattle.agreement.specs.History.{Always, Call, Did, Event, History, Once, hand, inboxOf, offer, sent, tick}
 use Rattle.agreement.specs.Run.{Driven, Honest, Run, StepAt, Timely}
-use Rattle.agreement.specs.Setting.{Lawful, Setting}
+use Rattle.agreement.specs.Setting.{Lawful, Setting, Sound}
 
 -- contents of one byte
 abbrev pub readByte : List ℕ → Option ℕ
@@ -144,6 +147,11 @@ late = voted (offered (waited (hands 2 noticeOf (blamed (clashed (cheated []))))
 unfoldable pub forged : History
 forged = voted (offered (waited (noticed (blamed (clashed (cheated (hands 1 (voteOf 2 3) [])))))))
 
+-- a seat was handed a proposal of b, with a good seal of the leader of its view
+abbrev pub Proposed : ℕ → Block ℕ → History → Type 0
+Proposed i b h = Once (λ e p. (e .who ≡ i) × ((seal : List ℕ) × (readParts oneByte 1 3 (inboxOf (e .what)) ≡ Ok (Proposal b seal None)) ×
+    (judge (three .accepts) (asked oneByte 1 3 (three .leader) (Proposal b seal None)) ≡ Ok tt))) h
+
 -- a sound seat met two proposals of one rank
 abbrev pub Clashes : ℕ → History → Type 0
 Clashes i h = Once (λ e p. (e .who ≡ i) × Did 1 oneByte three (λ o. o .word ≡ Clash) e p) h
@@ -160,6 +168,11 @@ InTime e h = Timely 1 oneByte three (e ∷ h)
 pub record Witness : Type 0 where
   pub lawful : Lawful three
   pub a-run : Run 1 oneByte three story
+  pub cheat-leads : Sound three (three .leader 0) → ⊥
+  pub one-rank : left .rank ≡ right .rank
+  pub two-blocks : left ≡ right → ⊥
+  pub left-to-one : Proposed 1 left story
+  pub right-to-two : Proposed 2 right story
   pub clash-at-one : Clashes 1 story
   pub clash-at-two : Clashes 2 story
   pub commit-at-one : Committed 1 oneByte three story 1 good
