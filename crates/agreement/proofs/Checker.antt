@@ -1,33 +1,27 @@
 -- A test of histories at the three seats: one that passes is a run.
 use Prim.Native.Nat.{ℕ, zero, suc, _+_, _≤_, _<_}
-use mathlib.Core.Path.{_≡_, refl, sym, ap, subst, subst₂, _∙_}
-use mathlib.Core.Bool.{Bool, true, false, cond, not, _&&_, _||_}
+use mathlib.Core.Path.{_≡_, sym, ap, subst, subst₂, _∙_}
+use mathlib.Core.Bool.{Bool, true, false, not, _&&_, _||_}
 use mathlib.Core.List.{List, [], _∷_, _++_}
 use mathlib.Core.Logic.{_⊎_, inl, inr}
 use native.Mathlib.Omega.{arith}
 use lib.Dec.{eqb, leb, ltb}
-use lib.ListN.{getD}
 use Rattle.std.specs.declared.option.Option.{Option}
 use Rattle.std.specs.declared.option.Option.the-variants.{Some, None}
 use Rattle.std.specs.declared.result.Result.{Result}
 use Rattle.std.specs.declared.result.Result.the-variants.{Ok, Err}
 use Rattle.std.specs.shelf.Text.{sameBytes}
 use Rattle.std.proofs.shelf.Equals.{sameBytes-decides}
-use Rattle.std.proofs.shelf.Tests.{and-parts, cases-bool, eqb-true, leb-true, ltb-true, not-from-true, or-cases}
+use Rattle.std.proofs.shelf.Tests.{and-parts, eqb-true, leb-true, ltb-true, or-cases}
 use Rattle.content.specs.Kinds.{Bytes}
 use Rattle.content.specs.declared.refusal.Refusal.{Refusal}
-use Rattle.wire.specs.Asked.{Question, asked}
-use Rattle.wire.specs.Layout.{blameStatement, proposalStatement, voteStatement}
-use Rattle.wire.specs.Reading.{readParts}
-use Rattle.wire.specs.declared.message.Parts.{Parts}
-use Rattle.wire.specs.declared.message.Parts.the-variants.{Proposal, Vote, Blame, Certified, Notice}
-use Rattle.seat.specs.Sends.{Outcome, Sending, relay, sendingBytes, write}
-use Rattle.agreement.specs.History.{Always, Call, Did, Event, History, Is, Once, Own, Refused, Said, Sends, clock, hand, inboxOf, offer, result, sent, tick}
-use Rattle.agreement.specs.Run.{Alike, Driven, Each, Hands, Honest, HonestSeal, Moment, Run, Sealed, StepAt, Timely}
+use Rattle.seat.specs.Sends.{Outcome, Sending, sendingBytes}
+use Rattle.agreement.specs.History.{Call, Event, History, Is, Once, Refused, Sends, clock, hand, inboxOf, offer, result, sent, tick}
+use Rattle.agreement.specs.Run.{Alike, Driven, Each, Hands, Sealed, StepAt, Timely}
 use Rattle.agreement.specs.Setting.{Sound}
 use Rattle.agreement.specs.Witness.{oneByte, three}
-use Rattle.agreement.proofs.Basics.{err-ok, head-same, ok-same, tail-same, true-false}
-use Rattle.agreement.proofs.Replay.{Stamp, answer-is, clock-is, deskOf, nowOf, oneOf, sound-is, stamp, trace, trace-step, twoOf}
+use Rattle.agreement.proofs.Basics.{true-false}
+use Rattle.agreement.proofs.Replay.{Stamp, answer-is, clock-is, nowOf, sound-is, stamp, trace}
 
 -- every number is a byte
 abbrev pub areBytes : List ℕ → Bool
@@ -56,7 +50,7 @@ driven-is e h ok =
     let a = and-parts (three .sound (e .who)) (areBytes (inboxOf (e .what)) && isOk (stamp e (trace h) .answer)) ok in
     let b = and-parts (areBytes (inboxOf (e .what))) (isOk (stamp e (trace h) .answer)) (a .1) in
     let never : (r : Refusal) → Refused 1 oneByte three r e h → ⊥ =
-        λ r. not-refused (result 1 oneByte three e h) (stamp e (trace h) .answer) r (b .1) (answer-is e h (a .0)) in
+    λ r. not-refused (result 1 oneByte three e h) (stamp e (trace h) .answer) r (b .1) (answer-is e h (a .0)) in
     record {
       at-sound = a .0;
       in-bytes = bytes-are (inboxOf (e .what)) (b .0);
@@ -264,7 +258,7 @@ timely-split ps sealed q e p all ok m sends l sl late j sj =
     let h : History = q ++ (e ∷ p) in
     let s : Sound three (e .who) = sound-at q e p all in
     elim (handed-later ps sealed (nowOf 1 (trace h)) (nowOf 2 (trace h)) (λ j m. false) (λ j m. ⊥) (λ j m x. true-false (sym x)) q e p ok s m sends
-        (over-is (e .who) l h (e ∷ p) s sl late) j sj) [
+    (over-is (e .who) l h (e ∷ p) s sl late) j sj) [
       | inl x ↦ absurd x
       | inr x ↦ x
     ]

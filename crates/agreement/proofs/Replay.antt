@@ -1,7 +1,7 @@
 -- Histories at the three seats, replayed: each call with its answer and both sound seats after it.
 use Prim.Native.Nat.{ℕ}
-use mathlib.Core.Path.{_≡_, refl, sym, ap, subst, _∙_}
-use mathlib.Core.Bool.{Bool, true, false, cond, _||_}
+use mathlib.Core.Path.{_≡_, refl, sym, ap, subst}
+use mathlib.Core.Bool.{cond}
 use mathlib.Core.List.{List, [], _∷_}
 use mathlib.Core.Logic.{_⊎_, inl, inr}
 use lib.Dec.{eqb}
@@ -52,10 +52,6 @@ stamp e t =
 unfoldable pub trace : History → List Stamp
 trace [] = []
 trace (e ∷ h) = let t : List Stamp = trace h in stamp e t ∷ t
-
-pub trace-step : (e : Event) (h : History) → trace (e ∷ h) ≡ stamp e (trace h) ∷ trace h
-unfolding trace
-trace-step e h = refl
 
 pub one-is : (h : History) → desk 1 oneByte three 1 h ≡ oneOf (trace h)
 unfolding desk trace

@@ -1,7 +1,7 @@
 -- The test of histories at the three seats, put together: seals, whole runs, and what was committed.
-use Prim.Native.Nat.{ℕ, _+_, _≤_, _<_}
+use Prim.Native.Nat.{ℕ, _<_}
 use mathlib.Core.Path.{_≡_, refl, sym, ap, subst, _∙_}
-use mathlib.Core.Bool.{Bool, true, false, cond, not, _&&_, _||_}
+use mathlib.Core.Bool.{Bool, true, false, not, _&&_, _||_}
 use mathlib.Core.List.{List, [], _∷_, _++_}
 use mathlib.Core.Logic.{_⊎_, inl, inr}
 use lib.Dec.{eqb, ltb}
@@ -23,7 +23,7 @@ use Rattle.seat.specs.Sends.{Outcome, Sending, relay, write}
 use Rattle.seat.specs.declared.answer.Word.{Word}
 use Rattle.seat.specs.declared.answer.Word.the-variants.{Idle, Noted, Accepted, Clash, Certified as SaysCertified, Counted, Left, Offered, Entered, Voted, Blamed}
 use Rattle.agreement.specs.Committed.{Committed, Takes, direct}
-use Rattle.agreement.specs.History.{Always, Desk, Did, Event, History, Once, Own, Said, desk, inboxOf, result}
+use Rattle.agreement.specs.History.{Always, Desk, Did, Event, History, Once, Own, desk, inboxOf}
 use Rattle.agreement.specs.Run.{Each, Honest, HonestSeal, Run}
 use Rattle.agreement.specs.Setting.{Sound}
 use Rattle.agreement.specs.Witness.{Clashes, InStep, InTime, oneByte, three}
@@ -90,12 +90,14 @@ says-is : (i : ℕ) (st : List ℕ) (e : Event) (h : History) → Sound three (e
     (e .who ≡ i) × Did 1 oneByte three (λ o. Own 1 oneByte three st (o .sends .message) ⊎ Own 1 oneByte three st (o .sends .blame)) e h
 says-is i st e h s ok =
     let f : Outcome 1 ℕ → Bool = λ o. owns st (o .sends .message) || owns st (o .sends .blame) in
-    let a = and-parts (eqb (e .who) i) (passes f (stamp e (trace h) .answer)) ok in
-    (eqb-true (e .who) i (a .0), did-is f (λ o. Own 1 oneByte three st (o .sends .message) ⊎ Own 1 oneByte three st (o .sends .blame)) (λ o x.
-        elim (or-cases (owns st (o .sends .message)) (owns st (o .sends .blame)) x) [
-          | inl y ↦ inl (owns-is st (o .sends .message) y)
-          | inr y ↦ inr (owns-is st (o .sends .blame) y)
-        ]) e h s (a .1))
+    let a = and-parts (eqb (e .who) i) (passes f (stamp e (trace h) .answer)) ok in (
+      eqb-true (e .who) i (a .0),
+      did-is f (λ o. Own 1 oneByte three st (o .sends .message) ⊎ Own 1 oneByte three st (o .sends .blame)) (λ o x.
+          elim (or-cases (owns st (o .sends .message)) (owns st (o .sends .blame)) x) [
+            | inl y ↦ inl (owns-is st (o .sends .message) y)
+            | inr y ↦ inr (owns-is st (o .sends .blame) y)
+          ]) e h s (a .1),
+    )
 
 -- the seals of a message are honest
 abbrev pub honestSeals : List Stamp → List Question → Bool
@@ -116,12 +118,14 @@ seals-are h all [] ok = tt
 seals-are h all (q ∷ qs) ok =
     let f : Stamp → List Stamp → Bool = λ s _. says (q .seat) (q .statement) s in
     let good : Bool = three .sound (q .seat) && three .accepts (q .seat) (q .statement) (q .seal) in
-    let a = and-parts (not good || some f (trace h)) (honestSeals (trace h) qs) ok in
-    (λ s yes-it. elim (or-cases (not good) (some f (trace h)) (a .0)) [
-      | inl x ↦ absurd (true-false (sym x ∙ not-from-true good (and-from (three .sound (q .seat)) (three .accepts (q .seat) (q .statement) (q .seal)) s yes-it)))
-      | inr x ↦ some-is f (λ e p. (e .who ≡ q .seat) × Did 1 oneByte three (λ o. Own 1 oneByte three (q .statement) (o .sends .message) ⊎
-          Own 1 oneByte three (q .statement) (o .sends .blame)) e p) (says-is (q .seat) (q .statement)) h all x
-    ], seals-are h all qs (a .1))
+    let a = and-parts (not good || some f (trace h)) (honestSeals (trace h) qs) ok in (
+      λ s yes-it. elim (or-cases (not good) (some f (trace h)) (a .0)) [
+        | inl x ↦ absurd (true-false (sym x ∙ not-from-true good (and-from (three .sound (q .seat)) (three .accepts (q .seat) (q .statement) (q .seal)) s yes-it)))
+        | inr x ↦ some-is f (λ e p. (e .who ≡ q .seat) × Did 1 oneByte three (λ o. Own 1 oneByte three (q .statement) (o .sends .message) ⊎
+            Own 1 oneByte three (q .statement) (o .sends .blame)) e p) (says-is (q .seat) (q .statement)) h all x
+      ],
+      seals-are h all qs (a .1),
+    )
 
 pub honest-is : (e : Event) (h : History) → AllSound h → isHonest (stamp e (trace h)) (trace h) ≡ true → Honest 1 oneByte three e h
 honest-is e h all ok m reads =
@@ -156,8 +160,8 @@ all-sound (e ∷ h) ok =
 pub in-step : (h : History) → every isInStep (trace h) ≡ true → Always InStep h
 in-step h ok =
     every-is isInStep InStep (λ e p all x.
-        let a = and-parts (isDriven (stamp e (trace p))) (stepsAt (e .who) (e .what) (trace p)) x in
-        (driven-is e p (a .0), step-is (e .who) (e .what) p (all .0) (a .1))) h (all-sound h ok) ok
+    let a = and-parts (isDriven (stamp e (trace p))) (stepsAt (e .who) (e .what) (trace p)) x in
+    (driven-is e p (a .0), step-is (e .who) (e .what) p (all .0) (a .1))) h (all-sound h ok) ok
 
 pub in-time : (ps : Table) → AllSealed ps → (h : History) → AllSound h → every (λ s t. isTimely ps (s ∷ t)) (trace h) ≡ true → Always InTime h
 unfolding trace
@@ -206,8 +210,8 @@ clashesAt i s t = eqb (s .event .who) i && passes (λ o. isClash (o .word)) (s .
 pub clashes : (i : ℕ) (h : History) → AllSound h → some (clashesAt i) (trace h) ≡ true → Clashes i h
 clashes i h all ok =
     some-is (clashesAt i) (λ e p. (e .who ≡ i) × Did 1 oneByte three (λ o. o .word ≡ Clash) e p) (λ e p s x.
-        let a = and-parts (eqb (e .who) i) (passes (λ o. isClash (o .word)) (stamp e (trace p) .answer)) x in
-        (eqb-true (e .who) i (a .0), did-is (λ o. isClash (o .word)) (λ o. o .word ≡ Clash) (λ o. clash-is (o .word)) e p s (a .1))) h all ok
+    let a = and-parts (eqb (e .who) i) (passes (λ o. isClash (o .word)) (stamp e (trace p) .answer)) x in
+    (eqb-true (e .who) i (a .0), did-is (λ o. isClash (o .word)) (λ o. o .word ≡ Clash) (λ o. clash-is (o .word)) e p s (a .1))) h all ok
 
 -- a commit
 block-is : (a b : Block ℕ) → sameBlock oneByte a b ≡ true → a ≡ b
@@ -242,14 +246,17 @@ commit-is i b e p s x =
     let g : Outcome 1 ℕ → Bool = λ o. sameBlocks (o .blocks) (deskOf (e .who) (trace p) .blocks ++ (b ∷ [])) in
     let a = and-parts (eqb (e .who) i) (passes f (stamp e (trace p) .answer) && passes g (stamp e (trace p) .answer)) x in
     let c = and-parts (passes f (stamp e (trace p) .answer)) (passes g (stamp e (trace p) .answer)) (a .1) in
-    let d : desk 1 oneByte three (e .who) p ≡ deskOf (e .who) (trace p) = desk-is (e .who) s p in
-    (eqb-true (e .who) i (a .0),
-     (did-is f (λ o. 0 < o .height) (λ o y. ltb-true 0 (o .height) y) e p s (c .0),
-      did-is g (λ o. o .blocks ≡ desk 1 oneByte three (e .who) p .blocks ++ (b ∷ []))
-          (λ o y. blocks-are (o .blocks) (deskOf (e .who) (trace p) .blocks ++ (b ∷ [])) y ∙
-              ap (λ (z : Desk 1 ℕ). z .blocks ++ (b ∷ [])) (sym d)) e p s (c .1)))
+    let d : desk 1 oneByte three (e .who) p ≡ deskOf (e .who) (trace p) = desk-is (e .who) s p in (
+      eqb-true (e .who) i (a .0),
+      (
+        did-is f (λ o. 0 < o .height) (λ o y. ltb-true 0 (o .height) y) e p s (c .0),
+        did-is g (λ o. o .blocks ≡ desk 1 oneByte three (e .who) p .blocks ++ (b ∷ []))
+            (λ o y. blocks-are (o .blocks) (deskOf (e .who) (trace p) .blocks ++ (b ∷ [])) y ∙
+            ap (λ (z : Desk 1 ℕ). z .blocks ++ (b ∷ [])) (sym d)) e p s (c .1),
+      ),
+    )
 
 pub commits : (i : ℕ) (b : Block ℕ) (h : History) → AllSound h → some (commitsAt i b) (trace h) ≡ true → Committed 1 oneByte three h i b
 commits i b h all ok =
     direct b (some-is (commitsAt i b) (λ e p. (e .who ≡ i) × (Did 1 oneByte three (λ o. 0 < o .height) e p × Takes 1 oneByte three b e p))
-        (commit-is i b) h all ok)
+    (commit-is i b) h all ok)

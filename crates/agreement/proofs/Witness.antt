@@ -1,5 +1,5 @@
 -- Agreement is not empty: the run with a cheat in it, and the two histories beside it that are no runs.
-use Prim.Native.Nat.{ℕ, _+_, _≤_, _<_}
+use Prim.Native.Nat.{ℕ, _+_, _<_}
 use mathlib.Core.Path.{_≡_, refl, sym, ap, subst, subst₂, _∙_}
 use mathlib.Core.Bool.{Bool, true, false, not, _&&_, _||_}
 use mathlib.Core.List.{List, [], _∷_, _++_}
@@ -24,7 +24,7 @@ use Rattle.shelf.specs.Blocks.{find, topTurn}
 use Rattle.seat.specs.Sends.{Outcome, Sending, sendingBytes}
 use Rattle.agreement.specs.History.{Call, Event, History, Is, Once, Sends, clock, hand, offer, sent, tick}
 use Rattle.agreement.specs.Run.{Hands, Run, Sealed, Timely, bare}
-use Rattle.agreement.specs.Setting.{Lawful, Sound}
+use Rattle.agreement.specs.Setting.{Lawful}
 use Rattle.agreement.specs.Witness.{Proposed, Witness, blameOf, blamed, both, calls, cheated, clashed, forged, good, hands, late, left, noticeOf, noticed, offered, oneByte, proposalOf, right, story, three, voteOf, voted, waited}
 use Rattle.agreement.proofs.Basics.{true-false}
 use Rattle.agreement.proofs.Checker.{AllSealed, Table, isTimely}
@@ -58,17 +58,34 @@ table =
 
 sealed : AllSealed table
 unfolding computed table
-sealed =
-    (record { sent-as = Proposal left (1 ∷ []) None; came-as = Proposal left (1 ∷ []) None; item-reads = refl; inbox-reads = refl; alike = refl; good-seals = refl },
-    (record { sent-as = Proposal right (1 ∷ []) None; came-as = Proposal right (1 ∷ []) None; item-reads = refl; inbox-reads = refl; alike = refl; good-seals = refl },
-    (record { sent-as = Blame 1 0 (0 ∷ []); came-as = Blame 1 0 (2 ∷ []); item-reads = refl; inbox-reads = refl; alike = refl; good-seals = refl },
-    (record { sent-as = Blame 2 0 (0 ∷ []); came-as = Blame 2 0 (3 ∷ []); item-reads = refl; inbox-reads = refl; alike = refl; good-seals = refl },
-    (record { sent-as = Notice 0 6 (2 ∷ (3 ∷ [])); came-as = Notice 0 6 (2 ∷ (3 ∷ [])); item-reads = refl; inbox-reads = refl; alike = refl; good-seals = refl },
-    (record { sent-as = Proposal good (0 ∷ []) None; came-as = Proposal good (2 ∷ []) None; item-reads = refl; inbox-reads = refl; alike = refl; good-seals = refl },
-    (record { sent-as = Proposal good (2 ∷ []) None; came-as = Proposal good (2 ∷ []) None; item-reads = refl; inbox-reads = refl; alike = refl; good-seals = refl },
-    (record { sent-as = Vote 1 good (0 ∷ []); came-as = Vote 1 good (2 ∷ []); item-reads = refl; inbox-reads = refl; alike = refl; good-seals = refl },
-    (record { sent-as = Vote 2 good (0 ∷ []); came-as = Vote 2 good (3 ∷ []); item-reads = refl; inbox-reads = refl; alike = refl; good-seals = refl },
-    tt)))))))))
+sealed = (
+  record { sent-as = Proposal left (1 ∷ []) None; came-as = Proposal left (1 ∷ []) None; item-reads = refl; inbox-reads = refl; alike = refl; good-seals = refl },
+  (
+    record { sent-as = Proposal right (1 ∷ []) None; came-as = Proposal right (1 ∷ []) None; item-reads = refl; inbox-reads = refl; alike = refl; good-seals = refl },
+    (
+      record { sent-as = Blame 1 0 (0 ∷ []); came-as = Blame 1 0 (2 ∷ []); item-reads = refl; inbox-reads = refl; alike = refl; good-seals = refl },
+      (
+        record { sent-as = Blame 2 0 (0 ∷ []); came-as = Blame 2 0 (3 ∷ []); item-reads = refl; inbox-reads = refl; alike = refl; good-seals = refl },
+        (
+          record { sent-as = Notice 0 6 (2 ∷ (3 ∷ [])); came-as = Notice 0 6 (2 ∷ (3 ∷ [])); item-reads = refl; inbox-reads = refl; alike = refl; good-seals = refl },
+          (
+            record { sent-as = Proposal good (0 ∷ []) None; came-as = Proposal good (2 ∷ []) None; item-reads = refl; inbox-reads = refl; alike = refl; good-seals = refl },
+            (
+              record { sent-as = Proposal good (2 ∷ []) None; came-as = Proposal good (2 ∷ []) None; item-reads = refl; inbox-reads = refl; alike = refl; good-seals = refl },
+              (
+                record { sent-as = Vote 1 good (0 ∷ []); came-as = Vote 1 good (2 ∷ []); item-reads = refl; inbox-reads = refl; alike = refl; good-seals = refl },
+                (
+                  record { sent-as = Vote 2 good (0 ∷ []); came-as = Vote 2 good (3 ∷ []); item-reads = refl; inbox-reads = refl; alike = refl; good-seals = refl },
+                  tt,
+                ),
+              ),
+            ),
+          ),
+        ),
+      ),
+    ),
+  ),
+)
 
 story-steps : every isInStep (trace story) ≡ true
 unfolding computed
@@ -217,8 +234,8 @@ notice-sent : Sends 1 oneByte three noticeOf leaving before
 unfolding leaving notice-item
 notice-sent =
     did-is notice-item (λ o. Is 1 oneByte three (blameOf 2 3) noticeOf (o .sends .certificate) ⊎ (Is 1 oneByte three (blameOf 2 3) noticeOf (o .sends .message) ⊎
-        Is 1 oneByte three (blameOf 2 3) noticeOf (o .sends .blame))) (λ o x. inr (inl (item-is (blameOf 2 3) noticeOf (o .sends .message) x)))
-        leaving before refl leaving-passes
+    Is 1 oneByte three (blameOf 2 3) noticeOf (o .sends .blame))) (λ o x. inr (inl (item-is (blameOf 2 3) noticeOf (o .sends .message) x)))
+    leaving before refl leaving-passes
 
 late-split : late ≡ since ++ (leaving ∷ before)
 unfolding computed leaving before since
@@ -244,7 +261,7 @@ late-untimely : Timely 1 oneByte three late → ⊥
 unfolding leaving
 late-untimely timely =
     let over : clock 1 oneByte three 1 (leaving ∷ before) + 1 < clock 1 oneByte three 1 late =
-        subst₂ (λ (a b : ℕ). a + 1 < b) (sym (clock-is 1 refl (leaving ∷ before))) (sym (clock-is 1 refl late)) late-over in
+    subst₂ (λ (a b : ℕ). a + 1 < b) (sym (clock-is 1 refl (leaving ∷ before))) (sym (clock-is 1 refl late)) late-over in
     not-delivered 1 noticeOf since notice-lost (timely since leaving before late-split noticeOf notice-sent 1 refl over 1 refl)
 
 -- the newest moment of a run is timely
@@ -274,7 +291,7 @@ forged-is-none : Run 1 oneByte three forged → ⊥
 unfolding forging
 forged-is-none run =
     let first : Run 1 oneByte three (forging ∷ []) =
-        run-tail 1 oneByte three after-forging (forging ∷ []) (subst (Run 1 oneByte three) forged-split run) in
+    run-tail 1 oneByte three after-forging (forging ∷ []) (subst (Run 1 oneByte three) forged-split run) in
     first .0 .honest (Vote 2 good (3 ∷ [])) forging-reads .0 refl refl
 
 forged-steps : every isInStep (trace forged) ≡ true
