@@ -14,7 +14,8 @@ use Rattle.std.specs.shelf.Text.{sameBytes}
 use Rattle.std.proofs.shelf.Equals.{sameBytes-decides}
 use Rattle.std.proofs.shelf.Tests.{and-parts, eq-eqb, not-from-true, or-cases}
 use Rattle.content.specs.declared.refusal.Refusal.{Refusal}
-use Rattle.wire.specs.Asked.{rowAsked}
+use Rattle.wire.specs.Asked.{asked, judge, rowAsked}
+use Rattle.wire.specs.Layout.{messageBytes}
 use Rattle.wire.specs.Masks.{ones}
 use Rattle.wire.specs.Reading.{readParts, sealsFit}
 use Rattle.wire.specs.declared.block.Block.{Block}
@@ -25,7 +26,7 @@ use Rattle.seat.specs.Sends.{Outcome, Sending, sendingBytes}
 use Rattle.agreement.specs.History.{Call, Event, History, Is, Once, Sends, clock, hand, offer, sent, tick}
 use Rattle.agreement.specs.Run.{Hands, Run, Sealed, Timely, bare}
 use Rattle.agreement.specs.Setting.{Lawful}
-use Rattle.agreement.specs.Witness.{Proposed, Witness, blameOf, blamed, both, calls, cheated, clashed, forged, good, hands, late, left, noticeOf, noticed, offered, oneByte, proposalOf, right, story, three, voteOf, voted, waited}
+use Rattle.agreement.specs.Witness.{Proposed, Witness, blameOf, blamed, both, calls, cheated, clashed, forged, good, hands, late, left, notice, noticed, offered, oneByte, right, story, three, voteOf, voted, waited}
 use Rattle.agreement.proofs.Basics.{true-false}
 use Rattle.agreement.proofs.Checker.{AllSealed, Table, isTimely}
 use Rattle.agreement.proofs.Replay.{clock-is, nowOf, sound-is, stamp, trace}
@@ -49,33 +50,45 @@ lawful = record {
 }
 
 -- each item with its sealed message
+pair : Parts ℕ (List ℕ) → Parts ℕ (List ℕ) → List ℕ × List ℕ
+pair a b = (messageBytes oneByte a, messageBytes oneByte b)
+
 table : Table
 table =
-    (proposalOf left 1, proposalOf left 1) ∷ ((proposalOf right 1, proposalOf right 1) ∷
-    ((blameOf 1 0, blameOf 1 2) ∷ ((blameOf 2 0, blameOf 2 3) ∷ ((noticeOf, noticeOf) ∷
-    ((proposalOf good 0, proposalOf good 2) ∷ ((proposalOf good 2, proposalOf good 2) ∷
-    ((voteOf 1 0, voteOf 1 2) ∷ ((voteOf 2 0, voteOf 2 3) ∷ []))))))))
+    pair (Proposal left (1 ∷ []) None) (Proposal left (1 ∷ []) None) ∷
+    (pair (Proposal right (1 ∷ []) None) (Proposal right (1 ∷ []) None) ∷
+    (pair (Blame 1 0 (0 ∷ [])) (Blame 1 0 (2 ∷ [])) ∷
+    (pair (Blame 2 0 (0 ∷ [])) (Blame 2 0 (3 ∷ [])) ∷
+    (pair (Notice 0 6 (2 ∷ (3 ∷ []))) (Notice 0 6 (2 ∷ (3 ∷ []))) ∷
+    (pair (Proposal good (0 ∷ []) None) (Proposal good (2 ∷ []) None) ∷
+    (pair (Proposal good (2 ∷ []) None) (Proposal good (2 ∷ []) None) ∷
+    (pair (Vote 1 good (0 ∷ [])) (Vote 1 good (2 ∷ [])) ∷
+    (pair (Vote 2 good (0 ∷ [])) (Vote 2 good (3 ∷ [])) ∷ []))))))))
+
+sealed-as : (a b : Parts ℕ (List ℕ)) → readParts oneByte 1 3 (messageBytes oneByte a) ≡ Ok a → readParts oneByte 1 3 (messageBytes oneByte b) ≡ Ok b →
+    bare a ≡ bare b → judge (three .accepts) (asked oneByte 1 3 (three .leader) b) ≡ Ok tt → Sealed 1 oneByte three (messageBytes oneByte a) (messageBytes oneByte b)
+sealed-as a b item inbox same seals = record { sent-as = a; came-as = b; item-reads = item; inbox-reads = inbox; alike = same; good-seals = seals }
 
 sealed : AllSealed table
-unfolding computed table
+unfolding computed table pair
 sealed = (
-  record { sent-as = Proposal left (1 ∷ []) None; came-as = Proposal left (1 ∷ []) None; item-reads = refl; inbox-reads = refl; alike = refl; good-seals = refl },
+  sealed-as (Proposal left (1 ∷ []) None) (Proposal left (1 ∷ []) None) refl refl refl refl,
   (
-    record { sent-as = Proposal right (1 ∷ []) None; came-as = Proposal right (1 ∷ []) None; item-reads = refl; inbox-reads = refl; alike = refl; good-seals = refl },
+    sealed-as (Proposal right (1 ∷ []) None) (Proposal right (1 ∷ []) None) refl refl refl refl,
     (
-      record { sent-as = Blame 1 0 (0 ∷ []); came-as = Blame 1 0 (2 ∷ []); item-reads = refl; inbox-reads = refl; alike = refl; good-seals = refl },
+      sealed-as (Blame 1 0 (0 ∷ [])) (Blame 1 0 (2 ∷ [])) refl refl refl refl,
       (
-        record { sent-as = Blame 2 0 (0 ∷ []); came-as = Blame 2 0 (3 ∷ []); item-reads = refl; inbox-reads = refl; alike = refl; good-seals = refl },
+        sealed-as (Blame 2 0 (0 ∷ [])) (Blame 2 0 (3 ∷ [])) refl refl refl refl,
         (
-          record { sent-as = Notice 0 6 (2 ∷ (3 ∷ [])); came-as = Notice 0 6 (2 ∷ (3 ∷ [])); item-reads = refl; inbox-reads = refl; alike = refl; good-seals = refl },
+          sealed-as (Notice 0 6 (2 ∷ (3 ∷ []))) (Notice 0 6 (2 ∷ (3 ∷ []))) refl refl refl refl,
           (
-            record { sent-as = Proposal good (0 ∷ []) None; came-as = Proposal good (2 ∷ []) None; item-reads = refl; inbox-reads = refl; alike = refl; good-seals = refl },
+            sealed-as (Proposal good (0 ∷ []) None) (Proposal good (2 ∷ []) None) refl refl refl refl,
             (
-              record { sent-as = Proposal good (2 ∷ []) None; came-as = Proposal good (2 ∷ []) None; item-reads = refl; inbox-reads = refl; alike = refl; good-seals = refl },
+              sealed-as (Proposal good (2 ∷ []) None) (Proposal good (2 ∷ []) None) refl refl refl refl,
               (
-                record { sent-as = Vote 1 good (0 ∷ []); came-as = Vote 1 good (2 ∷ []); item-reads = refl; inbox-reads = refl; alike = refl; good-seals = refl },
+                sealed-as (Vote 1 good (0 ∷ [])) (Vote 1 good (2 ∷ [])) refl refl refl refl,
                 (
-                  record { sent-as = Vote 2 good (0 ∷ []); came-as = Vote 2 good (3 ∷ []); item-reads = refl; inbox-reads = refl; alike = refl; good-seals = refl },
+                  sealed-as (Vote 2 good (0 ∷ [])) (Vote 2 good (3 ∷ [])) refl refl refl refl,
                   tt,
                 ),
               ),
@@ -92,7 +105,7 @@ unfolding computed
 story-steps = refl
 
 story-timely : every (λ s t. isTimely table (s ∷ t)) (trace story) ≡ true
-unfolding computed table
+unfolding computed table pair
 story-timely = refl
 
 story-honest : every isHonest (trace story) ≡ true
@@ -221,20 +234,20 @@ before : History
 before = both (blameOf 1 2) (clashed (cheated []))
 
 since : History
-since = voted (offered (waited (hands 2 noticeOf (hands 2 (blameOf 2 3) (record { who = 1; what = sent } ∷ [])))))
+since = voted (offered (waited (hands 2 notice (hands 2 (blameOf 2 3) (record { who = 1; what = sent } ∷ [])))))
 
 notice-item : Outcome 1 ℕ → Bool
-notice-item o = isItem (blameOf 2 3) noticeOf (o .sends .message)
+notice-item o = isItem (blameOf 2 3) notice (o .sends .message)
 
 leaving-passes : passes notice-item (stamp leaving (trace before) .answer) ≡ true
 unfolding computed leaving before notice-item
 leaving-passes = refl
 
-notice-sent : Sends 1 oneByte three noticeOf leaving before
+notice-sent : Sends 1 oneByte three notice leaving before
 unfolding leaving notice-item
 notice-sent =
-    did-is notice-item (λ o. Is 1 oneByte three (blameOf 2 3) noticeOf (o .sends .certificate) ⊎ (Is 1 oneByte three (blameOf 2 3) noticeOf (o .sends .message) ⊎
-    Is 1 oneByte three (blameOf 2 3) noticeOf (o .sends .blame))) (λ o x. inr (inl (item-is (blameOf 2 3) noticeOf (o .sends .message) x)))
+    did-is notice-item (λ o. Is 1 oneByte three (blameOf 2 3) notice (o .sends .certificate) ⊎ (Is 1 oneByte three (blameOf 2 3) notice (o .sends .message) ⊎
+    Is 1 oneByte three (blameOf 2 3) notice (o .sends .blame))) (λ o x. inr (inl (item-is (blameOf 2 3) notice (o .sends .message) x)))
     leaving before refl leaving-passes
 
 late-split : late ≡ since ++ (leaving ∷ before)
@@ -245,7 +258,7 @@ late-over : nowOf 1 (trace (leaving ∷ before)) + 1 < nowOf 1 (trace late)
 unfolding computed leaving before
 late-over = lit< tt
 
-notice-lost : undelivered 1 noticeOf since ≡ true
+notice-lost : undelivered 1 notice since ≡ true
 unfolding computed since kindOf
 notice-lost = refl
 
@@ -262,7 +275,7 @@ unfolding leaving
 late-untimely timely =
     let over : clock 1 oneByte three 1 (leaving ∷ before) + 1 < clock 1 oneByte three 1 late =
     subst₂ (λ (a b : ℕ). a + 1 < b) (sym (clock-is 1 refl (leaving ∷ before))) (sym (clock-is 1 refl late)) late-over in
-    not-delivered 1 noticeOf since notice-lost (timely since leaving before late-split noticeOf notice-sent 1 refl over 1 refl)
+    not-delivered 1 notice since notice-lost (timely since leaving before late-split notice notice-sent 1 refl over 1 refl)
 
 -- the newest moment of a run is timely
 run-timely : (e : Event) (h : History) → Run 1 oneByte three (e ∷ h) → Timely 1 oneByte three (e ∷ h)
@@ -299,7 +312,7 @@ unfolding computed
 forged-steps = refl
 
 forged-timely : every (λ s t. isTimely table (s ∷ t)) (trace forged) ≡ true
-unfolding computed table
+unfolding computed table pair
 forged-timely = refl
 
 -- the whole

@@ -91,8 +91,8 @@ voteOf i seal = messageBytes oneByte (Vote i good (seal ∷ []))
 abbrev pub blameOf : ℕ → ℕ → List ℕ
 blameOf i seal = messageBytes oneByte (Blame i 0 (seal ∷ []))
 
-abbrev pub noticeOf : List ℕ
-noticeOf = messageBytes oneByte (Notice 0 6 (2 ∷ (3 ∷ [])))
+abbrev pub notice : List ℕ
+notice = messageBytes oneByte (Notice 0 6 (2 ∷ (3 ∷ [])))
 
 -- a call at a seat, after which the slip is taken back
 abbrev pub calls : ℕ → Call → History → History
@@ -123,7 +123,7 @@ unfoldable pub blamed : History → History
 blamed h = both (blameOf 2 3) (both (blameOf 1 2) h)
 
 unfoldable pub noticed : History → History
-noticed h = both noticeOf h
+noticed h = both notice h
 
 -- after 3 ticks they enter view 1, after 3 more seat 1 offers its block
 unfoldable pub waited : History → History
@@ -141,7 +141,7 @@ story = voted (offered (waited (noticed (blamed (clashed (cheated []))))))
 
 -- the same, but that the notice which ended view 0 is not handed to seat 1
 unfoldable pub late : History
-late = voted (offered (waited (hands 2 noticeOf (blamed (clashed (cheated []))))))
+late = voted (offered (waited (hands 2 notice (blamed (clashed (cheated []))))))
 
 -- the same, but that seat 1 is first handed a vote of seat 2 which seat 2 has not sent
 unfoldable pub forged : History
