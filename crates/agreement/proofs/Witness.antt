@@ -21,12 +21,12 @@ use Rattle.wire.specs.Reading.{readParts, sealsFit}
 use Rattle.wire.specs.declared.block.Block.{Block}
 use Rattle.wire.specs.declared.message.Parts.{Parts}
 use Rattle.wire.specs.declared.message.Parts.the-variants.{Proposal, Vote, Blame, Certified, Notice}
-use Rattle.shelf.specs.Blocks.{find, topTurn}
+use Rattle.shelf.specs.Blocks.{climb, find, topTurn}
 use Rattle.seat.specs.Sends.{Outcome, Sending, sendingBytes}
 use Rattle.agreement.specs.History.{Call, Event, History, Is, Once, Sends, clock, hand, offer, sent, tick}
 use Rattle.agreement.specs.Run.{Hands, Run, Sealed, Timely, bare}
 use Rattle.agreement.specs.Setting.{Lawful}
-use Rattle.agreement.specs.Witness.{Proposed, Witness, blameOf, blamed, both, calls, cheated, clashed, forged, good, hands, late, left, notice, noticed, offered, oneByte, right, story, three, voteOf, voted, waited}
+use Rattle.agreement.specs.Witness.{Proposed, Witness, blameOf, blamed, both, cheated, clashed, committed, forged, hands, late, left, lower, lowerCertified, notice, noticed, offered, offeredUpper, oneByte, right, story, three, upper, voteOf, voted, waited}
 use Rattle.agreement.proofs.Basics.{true-false}
 use Rattle.agreement.proofs.Checker.{AllSealed, Table, isTimely}
 use Rattle.agreement.proofs.Replay.{clock-is, nowOf, sound-is, stamp, trace}
@@ -35,7 +35,7 @@ use Rattle.agreement.proofs.Time.{run-tail}
 
 -- what computes the three histories
 computed : Unit {0}
-unfolding rowAsked ones readParts sealsFit find topTurn trace blamed cheated clashed noticed offered voted waited story late forged
+unfolding rowAsked ones readParts sealsFit climb find topTurn trace blamed cheated clashed noticed offered offeredUpper voted waited committed story late forged
 computed = tt
 
 lawful : Lawful three
@@ -49,63 +49,48 @@ lawful = record {
   few = lit≤ tt;
 }
 
--- each item with its sealed message
-pair : Parts ℕ (List ℕ) → Parts ℕ (List ℕ) → List ℕ × List ℕ
-pair a b = (messageBytes oneByte a, messageBytes oneByte b)
+-- items with their sealed messages
+abbrev Pairs : Type 0
+Pairs = (ps : Table) × AllSealed ps
+
+pair : (a b : Parts ℕ (List ℕ)) → readParts oneByte 1 3 (messageBytes oneByte a) ≡ Ok a → readParts oneByte 1 3 (messageBytes oneByte b) ≡ Ok b →
+    bare a ≡ bare b → judge (three .accepts) (asked oneByte 1 3 (three .leader) b) ≡ Ok tt → Pairs → Pairs
+pair a b item inbox same seals rest = (
+  (messageBytes oneByte a, messageBytes oneByte b) ∷ rest .0,
+  (record { sent-as = a; came-as = b; item-reads = item; inbox-reads = inbox; alike = same; good-seals = seals }, rest .1),
+)
+
+pairs : Pairs
+unfolding computed
+pairs =
+    pair (Proposal left (1 ∷ []) None) (Proposal left (1 ∷ []) None) refl refl refl refl
+    (pair (Proposal right (1 ∷ []) None) (Proposal right (1 ∷ []) None) refl refl refl refl
+    (pair (Blame 1 0 (0 ∷ [])) (Blame 1 0 (2 ∷ [])) refl refl refl refl
+    (pair (Blame 2 0 (0 ∷ [])) (Blame 2 0 (3 ∷ [])) refl refl refl refl
+    (pair (Notice 0 6 (2 ∷ (3 ∷ []))) (Notice 0 6 (2 ∷ (3 ∷ []))) refl refl refl refl
+    (pair (Proposal lower (0 ∷ []) None) (Proposal lower (2 ∷ []) None) refl refl refl refl
+    (pair (Proposal lower (2 ∷ []) None) (Proposal lower (2 ∷ []) None) refl refl refl refl
+    (pair (Vote 1 lower (0 ∷ [])) (Vote 1 lower (2 ∷ [])) refl refl refl refl
+    (pair (Vote 2 lower (0 ∷ [])) (Vote 2 lower (3 ∷ [])) refl refl refl refl
+    (pair (Certified lowerCertified) (Certified lowerCertified) refl refl refl refl
+    (pair (Proposal upper (0 ∷ []) (Some lowerCertified)) (Proposal upper (2 ∷ []) (Some lowerCertified)) refl refl refl refl
+    (pair (Proposal upper (2 ∷ []) (Some lowerCertified)) (Proposal upper (2 ∷ []) (Some lowerCertified)) refl refl refl refl
+    (pair (Vote 1 upper (0 ∷ [])) (Vote 1 upper (2 ∷ [])) refl refl refl refl
+    (pair (Vote 2 upper (0 ∷ [])) (Vote 2 upper (3 ∷ [])) refl refl refl refl ([], tt))))))))))))))
 
 table : Table
-table =
-    pair (Proposal left (1 ∷ []) None) (Proposal left (1 ∷ []) None) ∷
-    (pair (Proposal right (1 ∷ []) None) (Proposal right (1 ∷ []) None) ∷
-    (pair (Blame 1 0 (0 ∷ [])) (Blame 1 0 (2 ∷ [])) ∷
-    (pair (Blame 2 0 (0 ∷ [])) (Blame 2 0 (3 ∷ [])) ∷
-    (pair (Notice 0 6 (2 ∷ (3 ∷ []))) (Notice 0 6 (2 ∷ (3 ∷ []))) ∷
-    (pair (Proposal good (0 ∷ []) None) (Proposal good (2 ∷ []) None) ∷
-    (pair (Proposal good (2 ∷ []) None) (Proposal good (2 ∷ []) None) ∷
-    (pair (Vote 1 good (0 ∷ [])) (Vote 1 good (2 ∷ [])) ∷
-    (pair (Vote 2 good (0 ∷ [])) (Vote 2 good (3 ∷ [])) ∷ []))))))))
-
-sealed-as : (a b : Parts ℕ (List ℕ)) → readParts oneByte 1 3 (messageBytes oneByte a) ≡ Ok a → readParts oneByte 1 3 (messageBytes oneByte b) ≡ Ok b →
-    bare a ≡ bare b → judge (three .accepts) (asked oneByte 1 3 (three .leader) b) ≡ Ok tt → Sealed 1 oneByte three (messageBytes oneByte a) (messageBytes oneByte b)
-sealed-as a b item inbox same seals = record { sent-as = a; came-as = b; item-reads = item; inbox-reads = inbox; alike = same; good-seals = seals }
+table = pairs .0
 
 sealed : AllSealed table
-unfolding computed table pair
-sealed = (
-  sealed-as (Proposal left (1 ∷ []) None) (Proposal left (1 ∷ []) None) refl refl refl refl,
-  (
-    sealed-as (Proposal right (1 ∷ []) None) (Proposal right (1 ∷ []) None) refl refl refl refl,
-    (
-      sealed-as (Blame 1 0 (0 ∷ [])) (Blame 1 0 (2 ∷ [])) refl refl refl refl,
-      (
-        sealed-as (Blame 2 0 (0 ∷ [])) (Blame 2 0 (3 ∷ [])) refl refl refl refl,
-        (
-          sealed-as (Notice 0 6 (2 ∷ (3 ∷ []))) (Notice 0 6 (2 ∷ (3 ∷ []))) refl refl refl refl,
-          (
-            sealed-as (Proposal good (0 ∷ []) None) (Proposal good (2 ∷ []) None) refl refl refl refl,
-            (
-              sealed-as (Proposal good (2 ∷ []) None) (Proposal good (2 ∷ []) None) refl refl refl refl,
-              (
-                sealed-as (Vote 1 good (0 ∷ [])) (Vote 1 good (2 ∷ [])) refl refl refl refl,
-                (
-                  sealed-as (Vote 2 good (0 ∷ [])) (Vote 2 good (3 ∷ [])) refl refl refl refl,
-                  tt,
-                ),
-              ),
-            ),
-          ),
-        ),
-      ),
-    ),
-  ),
-)
+unfolding table
+sealed = pairs .1
 
 story-steps : every isInStep (trace story) ≡ true
 unfolding computed
 story-steps = refl
 
 story-timely : every (λ s t. isTimely table (s ∷ t)) (trace story) ≡ true
-unfolding computed table pair
+unfolding computed table pairs pair
 story-timely = refl
 
 story-honest : every isHonest (trace story) ≡ true
@@ -119,7 +104,7 @@ story-runs =
 
 -- the first two calls hand in the two proposals
 after-both : History
-after-both = voted (offered (waited (noticed (blamed (clashed [])))))
+after-both = committed (noticed (blamed (clashed [])))
 
 both-split : story ≡ after-both ++ cheated []
 unfolding computed after-both
@@ -151,13 +136,22 @@ two-clashes : some (clashesAt 2) (trace story) ≡ true
 unfolding computed
 two-clashes = refl
 
-one-commits : some (commitsAt 1 good) (trace story) ≡ true
+-- both blocks are committed by both seats
+one-lower : some (commitsAt 1 lower) (trace story) ≡ true
 unfolding computed
-one-commits = refl
+one-lower = refl
 
-two-commits : some (commitsAt 2 good) (trace story) ≡ true
+two-lower : some (commitsAt 2 lower) (trace story) ≡ true
 unfolding computed
-two-commits = refl
+two-lower = refl
+
+one-upper : some (commitsAt 1 upper) (trace story) ≡ true
+unfolding computed
+one-upper = refl
+
+two-upper : some (commitsAt 2 upper) (trace story) ≡ true
+unfolding computed
+two-upper = refl
 
 -- A message is told from another by its kind.
 kindOf : Parts ℕ (List ℕ) → ℕ
@@ -234,7 +228,7 @@ before : History
 before = both (blameOf 1 2) (clashed (cheated []))
 
 since : History
-since = voted (offered (waited (hands 2 notice (hands 2 (blameOf 2 3) (record { who = 1; what = sent } ∷ [])))))
+since = committed (hands 2 notice (hands 2 (blameOf 2 3) (record { who = 1; what = sent } ∷ [])))
 
 notice-item : Outcome 1 ℕ → Bool
 notice-item o = isItem (blameOf 2 3) notice (o .sends .message)
@@ -282,21 +276,21 @@ run-timely : (e : Event) (h : History) → Run 1 oneByte three (e ∷ h) → Tim
 run-timely e h run = run .0 .timely
 
 late-is-none : Run 1 oneByte three late → ⊥
-unfolding late voted
+unfolding late committed voted
 late-is-none run = late-untimely (run-timely _ _ run)
 
 -- The vote that seat 2 has not sent is the first call.
 forging : Event
-forging = record { who = 1; what = hand (voteOf 2 3) 1024 }
+forging = record { who = 1; what = hand (voteOf lower 2 3) 1024 }
 
 after-forging : History
-after-forging = voted (offered (waited (noticed (blamed (clashed (cheated (record { who = 1; what = sent } ∷ [])))))))
+after-forging = committed (noticed (blamed (clashed (cheated (record { who = 1; what = sent } ∷ [])))))
 
 forged-split : forged ≡ after-forging ++ (forging ∷ [])
 unfolding computed forging after-forging
 forged-split = refl
 
-forging-reads : readParts oneByte 1 3 (voteOf 2 3) ≡ Ok (Vote 2 good (3 ∷ []))
+forging-reads : readParts oneByte 1 3 (voteOf lower 2 3) ≡ Ok (Vote 2 lower (3 ∷ []))
 unfolding computed
 forging-reads = refl
 
@@ -305,14 +299,14 @@ unfolding forging
 forged-is-none run =
     let first : Run 1 oneByte three (forging ∷ []) =
     run-tail 1 oneByte three after-forging (forging ∷ []) (subst (Run 1 oneByte three) forged-split run) in
-    first .0 .honest (Vote 2 good (3 ∷ [])) forging-reads .0 refl refl
+    first .0 .honest (Vote 2 lower (3 ∷ [])) forging-reads .0 refl refl
 
 forged-steps : every isInStep (trace forged) ≡ true
 unfolding computed
 forged-steps = refl
 
 forged-timely : every (λ s t. isTimely table (s ∷ t)) (trace forged) ≡ true
-unfolding computed table pair
+unfolding computed table pairs pair
 forged-timely = refl
 
 -- the whole
@@ -329,8 +323,10 @@ witness =
       right-to-two = proposed-since 2 right to-two;
       clash-at-one = clashes 1 story all one-clashes;
       clash-at-two = clashes 2 story all two-clashes;
-      commit-at-one = commits 1 good story all one-commits;
-      commit-at-two = commits 2 good story all two-commits;
+      lower-at-one = commits 1 lower story all one-lower;
+      lower-at-two = commits 2 lower story all two-lower;
+      upper-at-one = commits 1 upper story all one-upper;
+      upper-at-two = commits 2 upper story all two-upper;
       late-in-step = in-step late late-steps;
       late-honest = honest-all late (all-sound late late-steps) late-honest;
       late-is-none = late-is-none;

@@ -1,5 +1,5 @@
 -- A run with a cheat in it: three seats, of which seat 0 hands two proposals of one rank to the others; they clash, leave
--- the view, and commit a block of the next. And two histories beside it that are no runs.
+-- the view, and commit two blocks in the next. And two histories beside it that are no runs.
 use Prim.Native.Nat.{ℕ, _+_}
 use mathlib.Core.Path.{_≡_, refl}
 use mathlib.Core.Bool.{cond, _||_}
@@ -16,7 +16,8 @@ use Rattle.wire.specs.Asked.{asked, judge}
 use Rattle.wire.specs.Layout.{messageBytes}
 use Rattle.wire.specs.Reading.{readParts}
 use Rattle.wire.specs.declared.block.Block.{Block}
-use Rattle.wire.specs.declared.message.Parts.the-variants.{Proposal, Vote, Blame, Notice}
+use Rattle.wire.specs.declared.message.Certificate.{Certificate}
+use Rattle.wire.specs.declared.message.Parts.the-variants.{Proposal, Vote, Blame, Certified, Notice}
 use Rattle.seat.specs.declared.state.Terms.{Terms}
 use Rattle.seat.specs.declared.answer.Word.the-variants.{Clash}
 use Rattle.agreement.specs.Committed.{Committed}
@@ -71,22 +72,34 @@ three = record {
 abbrev pub firstOf : ℕ → ℕ → Block ℕ
 firstOf view content = record { rank = record { view = view; turn = 0 }; height = 1; parent = record { view = 0; turn = 0 }; content = content }
 
--- two blocks of one rank, from the cheat; one block from seat 1
+-- two blocks of one rank, from the cheat; two blocks from seat 1, one on the other
 abbrev pub left : Block ℕ
 left = firstOf 0 65
 
 abbrev pub right : Block ℕ
 right = firstOf 0 66
 
-abbrev pub good : Block ℕ
-good = firstOf 1 67
+abbrev pub lower : Block ℕ
+lower = firstOf 1 67
 
--- messages, sealed
-abbrev pub proposalOf : Block ℕ → ℕ → List ℕ
-proposalOf b seal = messageBytes oneByte (Proposal b (seal ∷ []) None)
+abbrev pub upper : Block ℕ
+upper = record { rank = record { view = 1; turn = 1 }; height = 2; parent = record { view = 1; turn = 0 }; content = 68 }
 
-abbrev pub voteOf : ℕ → ℕ → List ℕ
-voteOf i seal = messageBytes oneByte (Vote i good (seal ∷ []))
+-- messages, with the seal of the seat that sends each
+abbrev pub firstProposal : Block ℕ → ℕ → List ℕ
+firstProposal b seal = messageBytes oneByte (Proposal b (seal ∷ []) None)
+
+abbrev pub lowerCertified : Certificate ℕ (List ℕ)
+lowerCertified = record { block = lower; mask = 6; seals = 2 ∷ (3 ∷ []) }
+
+abbrev pub certificate : List ℕ
+certificate = messageBytes oneByte (Certified lowerCertified)
+
+abbrev pub upperProposal : ℕ → List ℕ
+upperProposal seal = messageBytes oneByte (Proposal upper (seal ∷ []) (Some lowerCertified))
+
+abbrev pub voteOf : Block ℕ → ℕ → ℕ → List ℕ
+voteOf b i seal = messageBytes oneByte (Vote i b (seal ∷ []))
 
 abbrev pub blameOf : ℕ → ℕ → List ℕ
 blameOf i seal = messageBytes oneByte (Blame i 0 (seal ∷ []))
@@ -113,11 +126,11 @@ ticks h =
 
 -- seat 0 cheats: each of the others is handed a proposal of its own
 unfoldable pub cheated : History → History
-cheated h = hands 2 (proposalOf right 1) (hands 1 (proposalOf left 1) h)
+cheated h = hands 2 (firstProposal right 1) (hands 1 (firstProposal left 1) h)
 
 -- they pass both on, clash, blame the view and leave it
 unfoldable pub clashed : History → History
-clashed h = both (proposalOf right 1) (both (proposalOf left 1) (both (proposalOf right 1) (both (proposalOf left 1) h)))
+clashed h = both (firstProposal right 1) (both (firstProposal left 1) (both (firstProposal right 1) (both (firstProposal left 1) h)))
 
 unfoldable pub blamed : History → History
 blamed h = both (blameOf 2 3) (both (blameOf 1 2) h)
@@ -125,27 +138,34 @@ blamed h = both (blameOf 2 3) (both (blameOf 1 2) h)
 unfoldable pub noticed : History → History
 noticed h = both notice h
 
--- after 3 ticks they enter view 1, after 3 more seat 1 offers its block
+-- after 3 ticks they enter view 1, after 3 more seat 1 offers a block
 unfoldable pub waited : History → History
 waited h = ticks (ticks (ticks (ticks (ticks (ticks h)))))
 
 unfoldable pub offered : History → History
-offered h = both (proposalOf good 2) (both (proposalOf good 2) (calls 1 (offer (67 ∷ []) 1024) h))
+offered h = both (firstProposal lower 2) (both (firstProposal lower 2) (calls 1 (offer (67 ∷ []) 1024) h))
 
--- after 2 ticks they vote, and both commit it
-unfoldable pub voted : History → History
-voted h = both (voteOf 2 3) (both (voteOf 1 2) (ticks (ticks h)))
+-- after 2 ticks they vote for it, and each commits it and sends its certificate
+unfoldable pub voted : Block ℕ → History → History
+voted b h = both (voteOf b 2 3) (both (voteOf b 1 2) (ticks (ticks h)))
+
+-- seat 1 offers a block on it, which they commit too
+unfoldable pub offeredUpper : History → History
+offeredUpper h = both (upperProposal 2) (both (upperProposal 2) (calls 1 (offer (68 ∷ []) 1024) (both certificate h)))
+
+unfoldable pub committed : History → History
+committed h = voted upper (offeredUpper (voted lower (offered (waited h))))
 
 unfoldable pub story : History
-story = voted (offered (waited (noticed (blamed (clashed (cheated []))))))
+story = committed (noticed (blamed (clashed (cheated []))))
 
 -- the same, but that the notice which ended view 0 is not handed to seat 1
 unfoldable pub late : History
-late = voted (offered (waited (hands 2 notice (blamed (clashed (cheated []))))))
+late = committed (hands 2 notice (blamed (clashed (cheated []))))
 
 -- the same, but that seat 1 is first handed a vote of seat 2 which seat 2 has not sent
 unfoldable pub forged : History
-forged = voted (offered (waited (noticed (blamed (clashed (cheated (hands 1 (voteOf 2 3) [])))))))
+forged = committed (noticed (blamed (clashed (cheated (hands 1 (voteOf lower 2 3) [])))))
 
 -- a seat was handed a proposal of b, with a good seal of the leader of its view
 abbrev pub Proposed : ℕ → Block ℕ → History → Type 0
@@ -163,8 +183,8 @@ InStep e h = Driven 1 oneByte three e h × StepAt 1 oneByte three (e .who) (e .w
 abbrev pub InTime : Event → History → Type 0
 InTime e h = Timely 1 oneByte three (e ∷ h)
 
--- Agreement speaks of something: there is a run in which a seat cheats, the sound ones see it, and they commit a block
--- all the same. And a run is more than a list: without timely delivery, or without honest seals, it is none.
+-- Agreement speaks of something: there is a run in which a seat cheats, the sound ones see it, and they commit blocks all
+-- the same. And a run is more than a list: without timely delivery, or without honest seals, it is none.
 pub record Witness : Type 0 where
   pub lawful : Lawful three
   pub a-run : Run 1 oneByte three story
@@ -175,8 +195,10 @@ pub record Witness : Type 0 where
   pub right-to-two : Proposed 2 right story
   pub clash-at-one : Clashes 1 story
   pub clash-at-two : Clashes 2 story
-  pub commit-at-one : Committed 1 oneByte three story 1 good
-  pub commit-at-two : Committed 1 oneByte three story 2 good
+  pub lower-at-one : Committed 1 oneByte three story 1 lower
+  pub lower-at-two : Committed 1 oneByte three story 2 lower
+  pub upper-at-one : Committed 1 oneByte three story 1 upper
+  pub upper-at-two : Committed 1 oneByte three story 2 upper
   pub late-in-step : Always InStep late
   pub late-honest : Always (Honest 1 oneByte three) late
   pub late-is-none : Run 1 oneByte three late → ⊥
