@@ -5,6 +5,7 @@ pub mod Ballots
 pub mod Basics
 pub mod Carried
 pub mod Cases
+pub mod Checker
 pub mod Clash
 pub mod Commits
 pub mod Delivery
@@ -22,6 +23,7 @@ pub mod Primed
 pub mod Proposals
 pub mod Quorum
 pub mod Refusals
+pub mod Replay
 pub mod Rounds
 pub mod Sane
 pub mod Sent
@@ -30,8 +32,10 @@ pub mod Shelves
 pub mod Statements
 pub mod Steps
 pub mod Sync
+pub mod Tested
 pub mod Time
 pub mod Unread
 pub mod Verdicts
 pub mod Votes
 pub mod Whole
+pub mod Witness
