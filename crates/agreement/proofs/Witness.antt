@@ -15,6 +15,7 @@ use Rattle.std.proofs.shelf.Equals.{sameBytes-decides}
 use Rattle.std.proofs.shelf.Tests.{and-parts, eq-eqb, not-from-true, or-cases}
 use Rattle.content.specs.declared.refusal.Refusal.{Refusal}
 use Rattle.wire.specs.Asked.{asked, judge, rowAsked}
+use Rattle.wire.specs.Keeping.{padded}
 use Rattle.wire.specs.Layout.{messageBytes}
 use Rattle.wire.specs.Masks.{ones}
 use Rattle.wire.specs.Reading.{readParts, sealsFit}
@@ -35,7 +36,7 @@ use Rattle.agreement.proofs.Time.{run-tail}
 
 -- what computes the three histories
 computed : Unit {0}
-unfolding rowAsked ones readParts sealsFit climb find topTurn trace blamed cheated clashed noticed offered offeredUpper voted waited committed story late forged
+unfolding padded rowAsked ones readParts sealsFit climb find topTurn trace blamed cheated clashed noticed offered offeredUpper voted waited committed story late forged
 computed = tt
 
 lawful : Lawful three
