@@ -5,12 +5,16 @@ use mathlib.Core.List.{List}
 use Rattle.std.specs.Options.{isSome}
 use Rattle.std.specs.declared.option.Option.{Option}
 use Rattle.std.specs.declared.option.Option.the-variants.{Some, None}
+use Rattle.std.specs.declared.result.Result.{Result}
+use Rattle.std.specs.declared.result.Result.the-variants.{Ok}
 use Rattle.content.specs.Kinds.{Kind}
+use Rattle.content.specs.declared.refusal.Refusal.{Refusal}
 use Rattle.wire.specs.Layout.{sameBlock}
 use Rattle.wire.specs.declared.block.Block.{Block}
-use Rattle.seat.specs.HandIn.{acceptable, acceptedAt, adds, ownBlame, slotOpen}
+use Rattle.seat.specs.HandIn.{acceptable, acceptedAt, adds, idle, ownBlame, slotOpen, takeIn}
 use Rattle.seat.specs.Parts.{isOn, withBlamed, withNote, withSpoiled}
-use Rattle.wire.specs.declared.message.Parts.the-variants.{Blame}
+use Rattle.wire.specs.declared.message.Certificate.{Certificate}
+use Rattle.wire.specs.declared.message.Parts.the-variants.{Blame, Certified}
 use Rattle.seat.specs.Sends.{Outcome, Sending, endOf, itemAt, relay, write, zeroSeal}
 use Rattle.seat.specs.declared.answer.Answer.{Answer}
 use Rattle.seat.specs.declared.answer.Item.{Item}
@@ -50,6 +54,11 @@ module _ {S : ℕ} {R : Type 0} where
   reacted s note ClashAndBlame = withBlamed true (withSpoiled true s)
 
 module _ {L S : ℕ} {R : Type 0} (k : Kind L R) where
+  -- the parent's certificate is taken in first, and written into the outbox if it is new
+  abbrev pub parentTaken : State S R → List (Block R) → ℕ → Option (Certificate R (List ℕ)) → Result (Outcome S R) Refusal
+  parentTaken s bs cells None = Ok (idle s bs)
+  parentTaken s bs cells (Some c) = takeIn k s bs cells c (write (Certified c))
+
   -- the slot's note, if any, decides
   abbrev pub meets : State S R → Block R → Option (Note R) → Reaction
   meets s b None = cond (accepting s (fresh b)) Accepted Noted

@@ -1,25 +1,39 @@
 // A proposal, after its parent's certificate was taken in.
 ghost use mathlib.Core.Path.{_≡_};
 ghost use mathlib.Core.Bool.{cond, not, _&&_};
-ghost use Rattle.seat.specs.HandIn.{acceptable, atSlot, slotOpen};
+ghost use Rattle.seat.specs.HandIn.{acceptable, atSlot, proposal, slotOpen, takeIn};
 ghost use Prim.Native.Nat.{_+_, _≤_};
 ghost use lib.ListN.{length};
 ghost use Rattle.std.specs.declared.option.Option.the-variants.{Some};
+ghost use Rattle.std.specs.Vec.{made};
+ghost use Rattle.shelf.specs.Blocks.{held, size};
+ghost use Rattle.wire.specs.Meaning.{plainCertificate, plainParent};
+ghost use Rattle.wire.specs.Writing.{bodySize, parentSize};
+ghost use Rattle.wire.specs.declared.message.Parts.the-variants.{Certified};
+ghost use Rattle.seat.specs.Does.{Does};
 ghost use Rattle.seat.specs.Parts.{isOn};
-ghost use Rattle.seat.specs.Reactions.{accepting, blamesBy, clashing, fresh, meets, noteOr, reacted, reaction, responded};
-ghost use Rattle.seat.specs.Sends.{endOf, putItem};
+ghost use Rattle.seat.specs.Reactions.{accepting, blamesBy, clashing, fresh, meets, noteOr, parentTaken, reacted, reaction, responded};
+ghost use Rattle.seat.specs.Sends.{endOf, putItem, write};
 ghost use Rattle.seat.specs.declared.proposing.Reaction.the-variants.{Accepted, Noted};
 use crate::answer::Answer;
 use crate::answer::Item;
 use crate::answer::Word;
 use crate::sending::end_of;
+use crate::sending::put;
 use crate::sending::put_blame;
 use crate::state::Note;
 use crate::state::Phase;
 use crate::state::State;
 use crate::state::Terms;
+use crate::taking::Verdict;
+use crate::taking::judge_in;
+use crate::taking::take;
 use content::kind::Content;
+use content::refusal::Refusal;
+use shelf::Shelf;
 use wire::block::Block;
+use wire::message::Certificate;
+use wire::message::Parts;
 use wire::ranks::at_least;
 use wire::ranks::same_block;
 
@@ -192,4 +206,73 @@ fn respond<const L: usize, const S: usize, C: Content<L>>(
             }
         }
     }
+}
+
+// The parent's certificate: a new one is written into the outbox, to be sent by itself.
+fn take_written<const L: usize, const S: usize, C: Content<L>>(
+    state: &mut State<S, C::Record>,
+    shelf: &mut Shelf<'_, C::Record>,
+    c: &Certificate<C::Record, &[u8]>,
+    outbox: &mut [u8],
+) -> Result<Answer, Refusal>
+    requires { ⌜ 1 + bodySize L (plainCertificate (now c)) ≤ length (now outbox) ⌝ }
+    ensures does { λ r. ⌜ Does (C·Content .kind) (takeIn (C·Content .kind) (now (state .entry)) (held (now (shelf .entry))) (size (now (shelf .entry))) (plainCertificate (now (c .entry))) (write (Certified (plainCertificate (now (c .entry)))))) (now (state .entry)) (held (now (shelf .entry))) (now (outbox .entry)) r (now (state .exit)) (held (now (shelf .exit))) (now (outbox .exit)) ⌝ }
+    ensures end { λ r. ⌜ made r (λ a. endOf (a .certificate) ≤ 1 + bodySize L (plainCertificate (now (c .entry)))) ⌝ }
+    ensures size { λ _. ⌜ size (now (shelf .exit)) ≡ size (now (shelf .entry)) ⌝ }
+{
+    match judge_in::<L, S, C>(state, shelf, &c.block)? {
+        Verdict::Known => Ok(Answer::of(Word::Idle)),
+        Verdict::New => {
+            let parts = Parts::Certified(Certificate {
+                block: c.block,
+                mask: c.mask,
+                seals: c.seals,
+            });
+            let item = put::<L, C>(&parts, outbox, 0);
+            Ok(Answer {
+                word: Word::Certified,
+                height: take(state, shelf, c),
+                certificate: Some(item),
+                message: None,
+                blame: None,
+            })
+        }
+    }
+}
+
+// The parent's certificate, if the proposal carries one.
+fn take_parent<const L: usize, const S: usize, C: Content<L>>(
+    state: &mut State<S, C::Record>,
+    shelf: &mut Shelf<'_, C::Record>,
+    parent: &Option<Certificate<C::Record, &[u8]>>,
+    outbox: &mut [u8],
+) -> Result<Answer, Refusal>
+    requires { ⌜ 1 + parentSize L (plainParent (now parent)) ≤ length (now outbox) ⌝ }
+    ensures does { λ r. ⌜ Does (C·Content .kind) (parentTaken (C·Content .kind) (now (state .entry)) (held (now (shelf .entry))) (size (now (shelf .entry))) (plainParent (now (parent .entry)))) (now (state .entry)) (held (now (shelf .entry))) (now (outbox .entry)) r (now (state .exit)) (held (now (shelf .exit))) (now (outbox .exit)) ⌝ }
+    ensures end { λ r. ⌜ made r (λ a. endOf (a .certificate) ≤ 1 + parentSize L (plainParent (now (parent .entry)))) ⌝ }
+    ensures size { λ _. ⌜ size (now (shelf .exit)) ≡ size (now (shelf .entry)) ⌝ }
+{
+    match parent {
+        None => Ok(Answer::of(Word::Idle)),
+        Some(c) => take_written::<L, S, C>(state, shelf, c, outbox),
+    }
+}
+
+// A proposal: its parent's certificate is taken in, and then the seat reacts to the block.
+pub fn proposal<const L: usize, const S: usize, C: Content<L>>(
+    terms: &Terms,
+    state: &mut State<S, C::Record>,
+    shelf: &mut Shelf<'_, C::Record>,
+    block: &Block<C::Record>,
+    parent: &Option<Certificate<C::Record, &[u8]>>,
+    outbox: &mut [u8],
+) -> Result<Answer, Refusal>
+    requires { ⌜ 1 + parentSize L (plainParent (now parent)) + (4 + S) ≤ length (now outbox) ⌝ }
+    ensures does { λ r. ⌜ Does (C·Content .kind) (proposal (C·Content .kind) (now (terms .entry)) (now (state .entry)) (held (now (shelf .entry))) (size (now (shelf .entry))) (now (block .entry)) (plainParent (now (parent .entry)))) (now (state .entry)) (held (now (shelf .entry))) (now (outbox .entry)) r (now (state .exit)) (held (now (shelf .exit))) (now (outbox .exit)) ⌝ }
+    ensures size { λ _. ⌜ size (now (shelf .exit)) ≡ size (now (shelf .entry)) ⌝ }
+{
+    let answer = take_parent::<L, S, C>(state, shelf, parent, outbox)?;
+    let view = state.view;
+    let reaction = react::<L, S, C>(state, block);
+    Ok(respond::<L, S, C>(terms, view, answer, reaction, outbox))
 }
