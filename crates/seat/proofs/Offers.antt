@@ -20,7 +20,7 @@ use Rattle.wire.specs.Masks.{quorum}
 use Rattle.wire.specs.Reading.{next}
 use Rattle.wire.specs.declared.block.Block.{Block}
 use Rattle.wire.specs.declared.message.Parts.the-variants.{Proposal}
-use Rattle.seat.specs.Calls.{answerAfter, boxAfter, stepState}
+use Rattle.seat.specs.Calls.{answerAfter, blocksAfter, boxAfter, stepState}
 use Rattle.seat.specs.HandIn.{carried}
 use Rattle.seat.specs.Offer.{bestBody, canCarry, mayOffer, nextHeight, noPlace, offeredBlock, offers, offerStep, tooSoon}
 use Rattle.seat.specs.Parts.{isOn, withOffered}
@@ -30,7 +30,7 @@ use Rattle.seat.specs.declared.answer.Item.{Item}
 use Rattle.seat.specs.declared.answer.Word.the-variants.{Offered}
 use Rattle.seat.specs.declared.state.State.{State}
 use Rattle.seat.specs.declared.state.Terms.{Terms}
-use Rattle.seat.proofs.Ticks.{Shows}
+use Rattle.seat.proofs.Ticks.{Shows, over}
 
 module _ {X : Type 0} where
   -- a test that refuses, and one that does not
@@ -60,15 +60,15 @@ module _ {X : Type 0} where
 
 module _ {S : ℕ} {R : Type 0} (p : Terms) (leader : ℕ → ℕ) (s : State S R) where
   -- the tests do not see what is answered behind them
-  pub may-carried : {X : Type 0} (x : X) → mayOffer p leader s x ≡ carried (λ _. x) (mayOffer p leader s (tt {0}))
-  may-carried x =
-      carried-unless (not (eqb (leader (s .view)) (p .own))) NotLeader (λ _. x) _ _
-      (carried-unless (not (isOn (s .phase))) OfferLeaving (λ _. x) _ _
-      (carried-unless (s .spoiled) OfferSpoiled (λ _. x) _ _
-      (carried-unless (s .round .offered) OfferedAlready (λ _. x) _ _
-      (carried-unless (noPlace s) NoPlaceLeft (λ _. x) _ _
-      (carried-unless (tooSoon p s) OfferTooSoon (λ _. x) _ _
-      (carried-if (canCarry (s .view) (s .turn) (s .best)) NoLawfulParent (λ _. x) (tt {0})))))))
+  may-carried : {X Y : Type 0} (f : Y → X) (y : Y) → mayOffer p leader s (f y) ≡ carried f (mayOffer p leader s y)
+  may-carried f y =
+      carried-unless (not (eqb (leader (s .view)) (p .own))) NotLeader f _ _
+      (carried-unless (not (isOn (s .phase))) OfferLeaving f _ _
+      (carried-unless (s .spoiled) OfferSpoiled f _ _
+      (carried-unless (s .round .offered) OfferedAlready f _ _
+      (carried-unless (noPlace s) NoPlaceLeft f _ _
+      (carried-unless (tooSoon p s) OfferTooSoon f _ _
+      (carried-if (canCarry (s .view) (s .turn) (s .best)) NoLawfulParent f y))))))
 
   -- a seat that may offer has a place
   places : {X : Type 0} (x : X) → mayOffer p leader s x ≡ Ok x → noPlace s ≡ false
@@ -115,7 +115,7 @@ module _ {L S : ℕ} {R : Type 0} (k : Kind L R) (p : Terms) (leader : ℕ → �
   offer-is : (bytes : List ℕ) (content : R) (r : Result (Unit {0}) Refusal) → readContent k bytes ≡ Ok content → r ≡ mayOffer p leader s (tt {0}) →
     offerStep k p leader s bs bytes ≡ carried (λ _. offers p s bs content) r
   offer-is bytes content r h a =
-      ap (λ r. next r (λ content. mayOffer p leader s (offers p s bs content))) h ∙ (may-carried p leader s (offers p s bs content) ∙ ap (λ x. carried (λ _. offers p s bs content) x) (sym a))
+      ap (λ r. next r (λ content. mayOffer p leader s (offers p s bs content))) h ∙ (may-carried p leader s (λ _. offers p s bs content) (tt {0}) ∙ ap (λ x. carried (λ _. offers p s bs content) x) (sym a))
 
   -- a seat that may not offer
   pub offer-barred : (bytes : List ℕ) (content : R) (e : Refusal) (answer : Result Answer Refusal) (out : List ℕ) → readContent k bytes ≡ Ok content → Err e ≡ mayOffer p leader s (tt {0}) →
@@ -146,3 +146,40 @@ module _ {L S : ℕ} {R : Type 0} (k : Kind L R) (p : Terms) where
         state-is = refl;
         outbox-is = eo ∙ ap (λ b. putItem k 0 (message b) out) eb;
       }
+
+-- an offer does not see the blocks, and leaves them alone
+module _ {L S : ℕ} {R : Type 0} (k : Kind L R) (p : Terms) (leader : ℕ → ℕ) (s : State S R) (bs : List (Block R)) where
+  over-next : (r : Result R Refusal) → next r (λ c. mayOffer p leader s (offers p s bs c)) ≡ carried (over bs) (next r (λ c. mayOffer p leader s (offers p s [] c)))
+  over-next (Ok c) = may-carried p leader s (over bs) (offers p s [] c)
+  over-next (Err e) = refl
+
+  offer-over : (bytes : List ℕ) → offerStep k p leader s bs bytes ≡ carried (over bs) (offerStep k p leader s [] bytes)
+  offer-over bytes = over-next (readContent k bytes)
+
+  answer-over : (r : Result (Outcome S R) Refusal) → answerAfter k (carried (over bs) r) ≡ answerAfter k r
+  answer-over (Ok o) = refl
+  answer-over (Err e) = refl
+
+  state-over : (r : Result (Outcome S R) Refusal) → stepState s (carried (over bs) r) ≡ stepState s r
+  state-over (Ok o) = refl
+  state-over (Err e) = refl
+
+  box-over : (out : List ℕ) (r : Result (Outcome S R) Refusal) → boxAfter k out (carried (over bs) r) ≡ boxAfter k out r
+  box-over out (Ok o) = refl
+  box-over out (Err e) = refl
+
+  blocks-over : (r : Result (Outcome S R) Refusal) → blocksAfter bs (carried (over bs) r) ≡ bs
+  blocks-over (Ok o) = refl
+  blocks-over (Err e) = refl
+
+  pub offer-answers : (bytes : List ℕ) → answerAfter k (offerStep k p leader s [] bytes) ≡ answerAfter k (offerStep k p leader s bs bytes)
+  offer-answers bytes = sym (ap (λ r. answerAfter k r) (offer-over bytes) ∙ answer-over (offerStep k p leader s [] bytes))
+
+  pub offer-states : (bytes : List ℕ) → stepState s (offerStep k p leader s [] bytes) ≡ stepState s (offerStep k p leader s bs bytes)
+  offer-states bytes = sym (ap (λ r. stepState s r) (offer-over bytes) ∙ state-over (offerStep k p leader s [] bytes))
+
+  pub offer-boxes : (bytes out : List ℕ) → boxAfter k out (offerStep k p leader s [] bytes) ≡ boxAfter k out (offerStep k p leader s bs bytes)
+  offer-boxes bytes out = sym (ap (λ r. boxAfter k out r) (offer-over bytes) ∙ box-over out (offerStep k p leader s [] bytes))
+
+  pub offer-blocks : (bytes : List ℕ) → blocksAfter bs (offerStep k p leader s bs bytes) ≡ bs
+  offer-blocks bytes = ap (λ r. blocksAfter bs r) (offer-over bytes) ∙ blocks-over (offerStep k p leader s [] bytes)
