@@ -33,19 +33,6 @@ use Rattle.seat.specs.declared.state.Terms.{Terms}
 use Rattle.seat.proofs.Ticks.{Shows, over}
 
 module _ {X : Type 0} where
-  -- a test that refuses, and one that does not
-  pub stops : (b : Bool) (e : Refusal) (r : Result X Refusal) → b ≡ true → Err e ≡ cond b (Err e) r
-  stops b e r h = rw h refl
-
-  pub passes : (b : Bool) (e : Refusal) (r a : Result X Refusal) → b ≡ false → a ≡ r → a ≡ cond b (Err e) r
-  passes b e r a h k = rw h k
-
-  pub bars : (b : Bool) (e : Refusal) (x : X) → b ≡ false → Err e ≡ cond b (Ok x) (Err e)
-  bars b e x h = rw h refl
-
-  pub lets : (b : Bool) (e : Refusal) (x : X) → b ≡ true → Ok x ≡ cond b (Ok x) (Err e)
-  lets b e x h = rw h refl
-
   passed : (b : Bool) (e : Refusal) (r : Result X Refusal) (x : X) → cond b (Err e) r ≡ Ok x → (b ≡ false) × (r ≡ Ok x)
   passed true e r x h = absurd (let z : _≡_ {A = ℕ} 0 1 = cc in omega arith)
   passed false e r x h = (refl, h)
@@ -102,28 +89,29 @@ pub record Steps {L S : ℕ} {R : Type 0} (k : Kind L R) (s : State S R) (out : 
   pub outbox-is : out′ ≡ boxAfter k out r
 
 module _ {L S : ℕ} {R : Type 0} (k : Kind L R) (p : Terms) (leader : ℕ → ℕ) (s : State S R) (bs : List (Block R)) where
-  refuses : (r : Result (Outcome S R) Refusal) (e : Refusal) (answer : Result Answer Refusal) (out : List ℕ) → r ≡ Err e → answer ≡ Err e → Steps k s out r answer s out
-  refuses r e answer out h a =
-      subst (λ (x : Result (Outcome S R) Refusal). Steps k s out x answer s out) (sym h) (record { answer-is = a; state-is = refl; outbox-is = refl })
+  -- the refusal e, passed on as d
+  refuses : (r : Result (Outcome S R) Refusal) (e d : Refusal) (answer : Result Answer Refusal) (out : List ℕ) → r ≡ Err e → answer ≡ Err d → d ≡ e → Steps k s out r answer s out
+  refuses r e d answer out h a b =
+      subst (λ (x : Result (Outcome S R) Refusal). Steps k s out x answer s out) (sym h) (record { answer-is = a ∙ ap (λ x. Err x) b; state-is = refl; outbox-is = refl })
 
   -- bytes that are no content
-  pub offer-unread : (bytes : List ℕ) (e : Refusal) (answer : Result Answer Refusal) (out : List ℕ) → readContent k bytes ≡ Err e → answer ≡ Err e →
+  pub offer-unread : (bytes : List ℕ) (e d : Refusal) (answer : Result Answer Refusal) (out : List ℕ) → Err e ≡ readContent k bytes → answer ≡ Err d → d ≡ e →
     Steps k s out (offerStep k p leader s bs bytes) answer s out
-  offer-unread bytes e answer out h a =
-      refuses (offerStep k p leader s bs bytes) e answer out (ap (λ r. next r (λ content. mayOffer p leader s (offers p s bs content))) h) a
+  offer-unread bytes e d answer out h a b =
+      refuses (offerStep k p leader s bs bytes) e d answer out (sym (ap (λ r. next r (λ content. mayOffer p leader s (offers p s bs content))) h)) a b
 
-  offer-is : (bytes : List ℕ) (content : R) (r : Result (Unit {0}) Refusal) → readContent k bytes ≡ Ok content → r ≡ mayOffer p leader s (tt {0}) →
+  offer-is : (bytes : List ℕ) (content : R) (r : Result (Unit {0}) Refusal) → Ok content ≡ readContent k bytes → r ≡ mayOffer p leader s (tt {0}) →
     offerStep k p leader s bs bytes ≡ carried (λ _. offers p s bs content) r
   offer-is bytes content r h a =
-      ap (λ r. next r (λ content. mayOffer p leader s (offers p s bs content))) h ∙ (may-carried p leader s (λ _. offers p s bs content) (tt {0}) ∙ ap (λ x. carried (λ _. offers p s bs content) x) (sym a))
+      sym (ap (λ r. next r (λ content. mayOffer p leader s (offers p s bs content))) h) ∙ (may-carried p leader s (λ _. offers p s bs content) (tt {0}) ∙ ap (λ x. carried (λ _. offers p s bs content) x) (sym a))
 
   -- a seat that may not offer
-  pub offer-barred : (bytes : List ℕ) (content : R) (e : Refusal) (answer : Result Answer Refusal) (out : List ℕ) → readContent k bytes ≡ Ok content → Err e ≡ mayOffer p leader s (tt {0}) →
-    answer ≡ Err e → Steps k s out (offerStep k p leader s bs bytes) answer s out
-  offer-barred bytes content e answer out h a b = refuses (offerStep k p leader s bs bytes) e answer out (offer-is bytes content (Err e) h a) b
+  pub offer-barred : (bytes : List ℕ) (content : R) (e d : Refusal) (answer : Result Answer Refusal) (out : List ℕ) → Ok content ≡ readContent k bytes →
+    Err e ≡ mayOffer p leader s (tt {0}) → answer ≡ Err d → d ≡ e → Steps k s out (offerStep k p leader s bs bytes) answer s out
+  offer-barred bytes content e d answer out h a b f = refuses (offerStep k p leader s bs bytes) e d answer out (offer-is bytes content (Err e) h a) b f
 
   -- a seat that may
-  pub offer-made : (bytes : List ℕ) (content : R) (answer : Answer) (s′ : State S R) (out out′ : List ℕ) → readContent k bytes ≡ Ok content → Ok (tt {0}) ≡ mayOffer p leader s (tt {0}) →
+  pub offer-made : (bytes : List ℕ) (content : R) (answer : Answer) (s′ : State S R) (out out′ : List ℕ) → Ok content ≡ readContent k bytes → Ok (tt {0}) ≡ mayOffer p leader s (tt {0}) →
     Shows k (offers p s bs content) answer s′ out out′ → Steps k s out (offerStep k p leader s bs bytes) (Ok answer) s′ out′
   offer-made bytes content answer s′ out out′ h a w =
       subst (λ (x : Result (Outcome S R) Refusal). Steps k s out x (Ok answer) s′ out′) (sym (offer-is bytes content (Ok (tt {0})) h a))
