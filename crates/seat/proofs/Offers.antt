@@ -96,26 +96,26 @@ module _ {L S : ℕ} {R : Type 0} (k : Kind L R) (p : Terms) (leader : ℕ → �
 
   -- bytes that are no content
   pub offer-unread : (bytes : List ℕ) (e d : Refusal) (answer : Result Answer Refusal) (out : List ℕ) → Err e ≡ readContent k bytes → answer ≡ Err d → d ≡ e →
-    Steps k s out (offerStep k p leader s bs bytes) answer s out
+      Steps k s out (offerStep k p leader s bs bytes) answer s out
   offer-unread bytes e d answer out h a b =
       refuses (offerStep k p leader s bs bytes) e d answer out (sym (ap (λ r. next r (λ content. mayOffer p leader s (offers p s bs content))) h)) a b
 
   offer-is : (bytes : List ℕ) (content : R) (r : Result (Unit {0}) Refusal) → Ok content ≡ readContent k bytes → r ≡ mayOffer p leader s (tt {0}) →
-    offerStep k p leader s bs bytes ≡ carried (λ _. offers p s bs content) r
+      offerStep k p leader s bs bytes ≡ carried (λ _. offers p s bs content) r
   offer-is bytes content r h a =
       sym (ap (λ r. next r (λ content. mayOffer p leader s (offers p s bs content))) h) ∙ (may-carried p leader s (λ _. offers p s bs content) (tt {0}) ∙ ap (λ x. carried (λ _. offers p s bs content) x) (sym a))
 
   -- a seat that may not offer
   pub offer-barred : (bytes : List ℕ) (content : R) (e d : Refusal) (answer : Result Answer Refusal) (out : List ℕ) → Ok content ≡ readContent k bytes →
-    Err e ≡ mayOffer p leader s (tt {0}) → answer ≡ Err d → d ≡ e → Steps k s out (offerStep k p leader s bs bytes) answer s out
+      Err e ≡ mayOffer p leader s (tt {0}) → answer ≡ Err d → d ≡ e → Steps k s out (offerStep k p leader s bs bytes) answer s out
   offer-barred bytes content e d answer out h a b f = refuses (offerStep k p leader s bs bytes) e d answer out (offer-is bytes content (Err e) h a) b f
 
   -- a seat that may
   pub offer-made : (bytes : List ℕ) (content : R) (answer : Answer) (s′ : State S R) (out out′ : List ℕ) → Ok content ≡ readContent k bytes → Ok (tt {0}) ≡ mayOffer p leader s (tt {0}) →
-    Shows k (offers p s bs content) answer s′ out out′ → Steps k s out (offerStep k p leader s bs bytes) (Ok answer) s′ out′
+      Shows k (offers p s bs content) answer s′ out out′ → Steps k s out (offerStep k p leader s bs bytes) (Ok answer) s′ out′
   offer-made bytes content answer s′ out out′ h a w =
       subst (λ (x : Result (Outcome S R) Refusal). Steps k s out x (Ok answer) s′ out′) (sym (offer-is bytes content (Ok (tt {0})) h a))
-        (record { answer-is = ap (λ x. Ok x) (w .answer-is); state-is = w .state-is; outbox-is = w .outbox-is })
+      (record { answer-is = ap (λ x. Ok x) (w .answer-is); state-is = w .state-is; outbox-is = w .outbox-is })
 
 module _ {S : ℕ} {R : Type 0} (p : Terms) (leader : ℕ → ℕ) (s : State S R) where
   pub offer-places : Ok (tt {0}) ≡ mayOffer p leader s (tt {0}) → (s .turn ≤ 65535) × (nextHeight (s .best) ≤ 4294967295)
@@ -123,16 +123,17 @@ module _ {S : ℕ} {R : Type 0} (p : Terms) (leader : ℕ → ℕ) (s : State S 
 
 module _ {L S : ℕ} {R : Type 0} (k : Kind L R) (p : Terms) where
   -- the proposal, written
-  pub proposes : (s : State S R) (content : R) (block : Block R) (item : Item) (out out′ : List ℕ) → block ≡ offeredBlock s content →
-    Some item ≡ itemAt k 0 (Some (write (Proposal block (zeroSeal S) (bestBody p S (s .best))))) →
-    out′ ≡ putItem k 0 (Some (write (Proposal block (zeroSeal S) (bestBody p S (s .best))))) out →
-    Shows k (offers p s [] content) (record { word = Offered; height = 0; certificate = None; message = Some item; blame = None }) (withOffered true s) out out′
-  proposes s content block item out out′ eb ei eo =
-      let message : Block R → Option (Sending R) = λ b. Some (write (Proposal b (zeroSeal S) (bestBody p S (s .best)))) in
+  pub proposes : (s s1 : State S R) (content : R) (block : Block R) (item : Item) (out out′ : List ℕ) → block ≡ offeredBlock s content → s1 ≡ withOffered true s →
+    Some item ≡ itemAt k 0 (Some (write (Proposal block (zeroSeal S) (bestBody p S (s1 .best))))) →
+    out′ ≡ putItem k 0 (Some (write (Proposal block (zeroSeal S) (bestBody p S (s1 .best))))) out →
+    Shows k (offers p s [] content) (record { word = Offered; height = 0; certificate = None; message = Some item; blame = None }) s1 out out′
+  proposes s s1 content block item out out′ eb es ei eo =
+      let message : Block R → State S R → Option (Sending R) = λ b x. Some (write (Proposal b (zeroSeal S) (bestBody p S (x .best)))) in
       record {
-        answer-is = ap (λ (m : Option Item). record { word = Offered; height = 0; certificate = None; message = m; blame = None }) (ei ∙ ap (λ b. itemAt k 0 (message b)) eb);
-        state-is = refl;
-        outbox-is = eo ∙ ap (λ b. putItem k 0 (message b) out) eb;
+        answer-is = ap (λ (m : Option Item). record { word = Offered; height = 0; certificate = None; message = m; blame = None })
+          (ei ∙ (ap (λ b. itemAt k 0 (message b s1)) eb ∙ ap (λ x. itemAt k 0 (message (offeredBlock s content) x)) es));
+        state-is = es;
+        outbox-is = eo ∙ (ap (λ b. putItem k 0 (message b s1) out) eb ∙ ap (λ x. putItem k 0 (message (offeredBlock s content) x) out) es);
       }
 
 -- an offer does not see the blocks, and leaves them alone

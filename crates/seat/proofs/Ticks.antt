@@ -195,7 +195,7 @@ module _ {S : ℕ} {R : Type 0} (p : Terms) where
 
 module _ {L S : ℕ} {R : Type 0} (k : Kind L R) (p : Terms) where
   pub on-ticks : (phase : Phase) (s s1 : State S R) (bs : List (Block R)) (answer : Answer) (out out′ : List ℕ) → phase ≡ On →
-    Shows k (onTick p (s .round .note) s []) answer s1 out out′ → Shows k (ticked p phase s bs) answer s1 out out′
+      Shows k (onTick p (s .round .note) s []) answer s1 out out′ → Shows k (ticked p phase s bs) answer s1 out out′
   on-ticks phase s s1 bs answer out out′ e h =
       subst (λ (o : Outcome S R). Shows k o answer s1 out out′) (sym (tick-on p phase s bs e))
-        (record { answer-is = h .answer-is; state-is = h .state-is; outbox-is = h .outbox-is })
+      (record { answer-is = h .answer-is; state-is = h .state-is; outbox-is = h .outbox-is })

@@ -1,7 +1,7 @@
 // An offer of the seat's own entry.
 ghost use mathlib.Core.Path.{_≡_};
 ghost use Prim.Native.Nat.{_+_, _*_, _≤_};
-ghost use mathlib.Core.Bool.{cond, _&&_};
+ghost use mathlib.Core.Bool.{true, cond, _&&_};
 ghost use mathlib.Core.List.{[]};
 ghost use lib.Dec.{eqb, ltb};
 ghost use lib.ListN.{length, take};
@@ -10,6 +10,7 @@ ghost use Rattle.wire.specs.Masks.{quorum};
 ghost use Rattle.wire.specs.declared.message.Parts.the-variants.{Proposal};
 ghost use Rattle.seat.specs.Calls.{answerAfter, boxAfter, stepState};
 ghost use Rattle.seat.specs.Offer.{bestBody, canCarry, mayOffer, nextHeight, noPlace, offeredBlock, offers, offerStep, rankOfBest, tooSoon};
+ghost use Rattle.seat.specs.Parts.{withOffered};
 ghost use Rattle.seat.specs.Sends.{answerOf, itemAt, outboxAfter, putItem, write};
 use crate::answer::Answer;
 use crate::answer::Item;
@@ -78,8 +79,7 @@ impl<const S: usize, R: Copy> State<S, R> {
     fn too_soon(&self, terms: &Terms) -> bool
         ensures { λ r. ⌜ r ≡ tooSoon (now (terms .entry)) (now (self .entry)) ⌝ }
     {
-        (0 < self.view)
-            & (self.now.saturating_sub(self.entered) < 2 * terms.delta as u32 + 1)
+        (0 < self.view) & (self.now.saturating_sub(self.entered) < 2 * terms.delta as u32 + 1)
     }
 
     // Whether this seat leads its view.
@@ -117,12 +117,14 @@ impl<const S: usize, R: Copy> State<S, R> {
         Ok(())
     }
 
-    // The block on top of best.
-    fn offered_block(&self, content: R) -> Block<R>
+    // The block on top of best: one is offered a turn.
+    fn offered_block(&mut self, content: R) -> Block<R>
         requires turn { ⌜ now self .turn ≤ 65535 ⌝ }
         requires height { ⌜ nextHeight (now self .best) ≤ 4294967295 ⌝ }
-        ensures { λ r. ⌜ r ≡ offeredBlock (now (self .entry)) content ⌝ }
+        ensures block { λ r. ⌜ r ≡ offeredBlock (now (self .entry)) content ⌝ }
+        ensures state { λ _. ⌜ now (self .exit) ≡ withOffered true (now (self .entry)) ⌝ }
     {
+        self.round.offered = true;
         Block {
             rank: Rank {
                 view: self.view,
@@ -201,7 +203,6 @@ fn propose<const L: usize, const S: usize, C: Content<L>>(
     ensures outbox { λ _. ⌜ now (outbox .exit) ≡ outboxAfter (C·Content .kind) (offers (now (terms .entry)) (now (state .entry)) [] content .sends) (now (outbox .entry)) ⌝ }
 {
     let block = state.offered_block(content);
-    state.round.offered = true;
     // the signing box fills the seal in
     let seal = [0u8; S];
     let message = put_proposal::<L, S, C>(terms, block, &seal, &state.best, outbox);
