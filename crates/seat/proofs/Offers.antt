@@ -124,14 +124,14 @@ module _ {S : ℕ} {R : Type 0} (p : Terms) (leader : ℕ → ℕ) (s : State S 
 module _ {L S : ℕ} {R : Type 0} (k : Kind L R) (p : Terms) where
   -- the proposal, written
   pub proposes : (s s1 : State S R) (content : R) (block : Block R) (item : Item) (out out′ : List ℕ) → block ≡ offeredBlock s content → s1 ≡ withOffered true s →
-    Some item ≡ itemAt k 0 (Some (write (Proposal block (zeroSeal S) (bestBody p S (s1 .best))))) →
-    out′ ≡ putItem k 0 (Some (write (Proposal block (zeroSeal S) (bestBody p S (s1 .best))))) out →
-    Shows k (offers p s [] content) (record { word = Offered; height = 0; certificate = None; message = Some item; blame = None }) s1 out out′
+      Some item ≡ itemAt k 0 (Some (write (Proposal block (zeroSeal S) (bestBody p S (s1 .best))))) →
+      out′ ≡ putItem k 0 (Some (write (Proposal block (zeroSeal S) (bestBody p S (s1 .best))))) out →
+      Shows k (offers p s [] content) (record { word = Offered; height = 0; certificate = None; message = Some item; blame = None }) s1 out out′
   proposes s s1 content block item out out′ eb es ei eo =
       let message : Block R → State S R → Option (Sending R) = λ b x. Some (write (Proposal b (zeroSeal S) (bestBody p S (x .best)))) in
       record {
         answer-is = ap (λ (m : Option Item). record { word = Offered; height = 0; certificate = None; message = m; blame = None })
-          (ei ∙ (ap (λ b. itemAt k 0 (message b s1)) eb ∙ ap (λ x. itemAt k 0 (message (offeredBlock s content) x)) es));
+            (ei ∙ (ap (λ b. itemAt k 0 (message b s1)) eb ∙ ap (λ x. itemAt k 0 (message (offeredBlock s content) x)) es));
         state-is = es;
         outbox-is = eo ∙ (ap (λ b. putItem k 0 (message b s1) out) eb ∙ ap (λ x. putItem k 0 (message (offeredBlock s content) x) out) es);
       }

@@ -90,12 +90,12 @@ module _ {L S : ℕ} {R : Type 0} (k : Kind L R) (p : Terms) where
       (entered-shows s1 [] bs (s1 .spoiled) answer s2 out out′ h)
 
   -- a seat that is spoiled as it enters
-  pub entered-blames : (s : State S R) (bs : List (Block R)) (b : Bool) (item : Item) (out out′ : List ℕ) → b ≡ true →
-      Some item ≡ itemAt k 0 (Some (ownBlame p s)) → out′ ≡ putItem k 0 (Some (ownBlame p s)) out →
-      Shows k (enteredAt p s bs b) (record { word = Blamed; height = 0; certificate = None; message = None; blame = Some item }) (withBlamed true s) out out′
-  entered-blames s bs b item out out′ e ei eo =
-      subst (λ v. Shows k (enteredAt p s bs v) (record { word = Blamed; height = 0; certificate = None; message = None; blame = Some item }) (withBlamed true s) out out′) (sym e)
-      (record { answer-is = rw ei refl; state-is = refl; outbox-is = eo })
+  pub entered-blames : (s s1 : State S R) (bs : List (Block R)) (b : Bool) (item : Item) (out out′ : List ℕ) → b ≡ true →
+      Some item ≡ itemAt k 0 (Some (ownBlame p s)) → s1 ≡ withBlamed true s → out′ ≡ putItem k 0 (Some (ownBlame p s)) out →
+      Shows k (enteredAt p s bs b) (record { word = Blamed; height = 0; certificate = None; message = None; blame = Some item }) s1 out out′
+  entered-blames s s1 bs b item out out′ e ei es eo =
+      subst (λ v. Shows k (enteredAt p s bs v) (record { word = Blamed; height = 0; certificate = None; message = None; blame = Some item }) s1 out out′) (sym e)
+      (record { answer-is = rw ei refl; state-is = es; outbox-is = eo })
 
   -- the blame after the vote, by whether it is due
   blame-shows : (d : Bool) (word last : Word) (msg : Option (Sending R)) (s s2 : State S R) (bs : List (Block R)) (m b : Option Item) (from : ℕ) (out out1 out2 : List ℕ) →
