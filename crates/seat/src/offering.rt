@@ -28,6 +28,11 @@ use wire::block::Rank;
 use wire::message::Certificate;
 use wire::message::Parts;
 
+// The last turn and the last height that a block can have.
+const LAST_TURN: u32 = 65535;
+
+const LAST_HEIGHT: u64 = 4294967295;
+
 // The height above best.
 fn next_height<R>(best: &Option<Best<R>>) -> u64
     ensures { λ r. ⌜ r ≡ nextHeight (now (best .entry)) ⌝ }
@@ -72,7 +77,7 @@ impl<const S: usize, R: Copy> State<S, R> {
     fn no_place(&self) -> bool
         ensures { λ r. ⌜ r ≡ noPlace (now (self .entry)) ⌝ }
     {
-        (self.turn > 65535) | (next_height(&self.best) > 4294967295)
+        (self.turn > LAST_TURN) | (next_height(&self.best) > LAST_HEIGHT)
     }
 
     // Soon after entering a view above 0 nothing is offered.
