@@ -199,3 +199,10 @@ module _ {L S : ℕ} {R : Type 0} (k : Kind L R) (p : Terms) where
   on-ticks phase s s1 bs answer out out′ e h =
       subst (λ (o : Outcome S R). Shows k o answer s1 out out′) (sym (tick-on p phase s bs e))
       (record { answer-is = h .answer-is; state-is = h .state-is; outbox-is = h .outbox-is })
+
+-- an outbox has room for a vote and a blame
+pub room-on : (L S room : ℕ) → L ≤ 64 → S ≤ 64 → 1024 ≤ room → 18 + L + (S + S) ≤ room
+room-on L S room hl hs hr = omega arith
+
+pub room-leaving : (S room : ℕ) → S ≤ 64 → 1024 ≤ room → 4 + S ≤ room
+room-leaving S room hs hr = omega arith
