@@ -206,3 +206,9 @@ room-on L S room hl hs hr = omega arith
 
 pub room-leaving : (S room : ℕ) → S ≤ 64 → 1024 ≤ room → 4 + S ≤ room
 room-leaving S room hs hr = omega arith
+
+pub room-blame : (S room : ℕ) → 4 + S ≤ room → 0 + (4 + S) ≤ room
+room-blame S room h = omega arith
+
+pub room-vote : (L S room : ℕ) → 18 + L + (S + S) ≤ room → 14 + L + S ≤ room
+room-vote L S room h = omega arith

@@ -1,6 +1,11 @@
 use mathlib.Core.List.{[]}
-use Rattle.seat.proofs.Ticks.{entered-blames}
+use borrow.Author.Needs.{needs}
+use lib.ListN.{length}
+use Rattle.seat.proofs.Ticks.{entered-blames, room-blame}
 use Rattle.seat.proofs.ticking.entered.Needs as need
+
+pub blame-requires : need.blame-requires
+blame-requires g c κs = (search needs, room-blame (g .S) (length (c .args .outbox .now)) (c .pre))
 
 pub returns : need.returns
 returns g c =

@@ -15,6 +15,6 @@ leaving-tick-requires g c κs = (search needs, room-leaving (g .S) (length (c .a
 pub returns-in-On : need.returns-in-On
 returns-in-On g c =
     let h = on-ticks (g .C·Content .kind) (c .args .terms .now) (c .args .state .now .phase) (withNow (c .args .state .now .now + 1) (c .args .state .now))
-        (c .on-tick .last .state) (held (c .args .shelf .now)) (c .on-tick .result) (c .args .outbox .now) (c .on-tick .last .outbox) (c .in-On .is)
-        (record { answer-is = c .on-tick .ensures .answer; state-is = c .on-tick .ensures .state; outbox-is = c .on-tick .ensures .outbox }) in
+    (c .on-tick .last .state) (held (c .args .shelf .now)) (c .on-tick .result) (c .args .outbox .now) (c .on-tick .last .outbox) (c .in-On .is)
+    (record { answer-is = c .on-tick .ensures .answer; state-is = c .on-tick .ensures .state; outbox-is = c .on-tick .ensures .outbox }) in
     record { answer = h .answer-is; state = h .state-is; outbox = h .outbox-is }
