@@ -20,7 +20,7 @@ use Rattle.wire.specs.Masks.{quorum}
 use Rattle.wire.specs.Reading.{next}
 use Rattle.wire.specs.declared.block.Block.{Block}
 use Rattle.wire.specs.declared.message.Parts.the-variants.{Proposal}
-use Rattle.seat.specs.Calls.{answerAfter, boxAfter, stepState}
+use Rattle.seat.specs.Calls.{answerAfter, blocksAfter, boxAfter, stepState}
 use Rattle.seat.specs.HandIn.{carried}
 use Rattle.seat.specs.Offer.{bestBody, canCarry, mayOffer, nextHeight, noPlace, offeredBlock, offers, offerStep, tooSoon}
 use Rattle.seat.specs.Parts.{isOn, withOffered}
@@ -30,22 +30,9 @@ use Rattle.seat.specs.declared.answer.Item.{Item}
 use Rattle.seat.specs.declared.answer.Word.the-variants.{Offered}
 use Rattle.seat.specs.declared.state.State.{State}
 use Rattle.seat.specs.declared.state.Terms.{Terms}
-use Rattle.seat.proofs.Ticks.{Shows}
+use Rattle.seat.proofs.Ticks.{Shows, over}
 
 module _ {X : Type 0} where
-  -- a test that refuses, and one that does not
-  pub stops : (b : Bool) (e : Refusal) (r : Result X Refusal) → b ≡ true → Err e ≡ cond b (Err e) r
-  stops b e r h = rw h refl
-
-  pub passes : (b : Bool) (e : Refusal) (r a : Result X Refusal) → b ≡ false → a ≡ r → a ≡ cond b (Err e) r
-  passes b e r a h k = rw h k
-
-  pub bars : (b : Bool) (e : Refusal) (x : X) → b ≡ false → Err e ≡ cond b (Ok x) (Err e)
-  bars b e x h = rw h refl
-
-  pub lets : (b : Bool) (e : Refusal) (x : X) → b ≡ true → Ok x ≡ cond b (Ok x) (Err e)
-  lets b e x h = rw h refl
-
   passed : (b : Bool) (e : Refusal) (r : Result X Refusal) (x : X) → cond b (Err e) r ≡ Ok x → (b ≡ false) × (r ≡ Ok x)
   passed true e r x h = absurd (let z : _≡_ {A = ℕ} 0 1 = cc in omega arith)
   passed false e r x h = (refl, h)
@@ -60,15 +47,15 @@ module _ {X : Type 0} where
 
 module _ {S : ℕ} {R : Type 0} (p : Terms) (leader : ℕ → ℕ) (s : State S R) where
   -- the tests do not see what is answered behind them
-  pub may-carried : {X : Type 0} (x : X) → mayOffer p leader s x ≡ carried (λ _. x) (mayOffer p leader s (tt {0}))
-  may-carried x =
-      carried-unless (not (eqb (leader (s .view)) (p .own))) NotLeader (λ _. x) _ _
-      (carried-unless (not (isOn (s .phase))) OfferLeaving (λ _. x) _ _
-      (carried-unless (s .spoiled) OfferSpoiled (λ _. x) _ _
-      (carried-unless (s .round .offered) OfferedAlready (λ _. x) _ _
-      (carried-unless (noPlace s) NoPlaceLeft (λ _. x) _ _
-      (carried-unless (tooSoon p s) OfferTooSoon (λ _. x) _ _
-      (carried-if (canCarry (s .view) (s .turn) (s .best)) NoLawfulParent (λ _. x) (tt {0})))))))
+  may-carried : {X Y : Type 0} (f : Y → X) (y : Y) → mayOffer p leader s (f y) ≡ carried f (mayOffer p leader s y)
+  may-carried f y =
+      carried-unless (not (eqb (leader (s .view)) (p .own))) NotLeader f _ _
+      (carried-unless (not (isOn (s .phase))) OfferLeaving f _ _
+      (carried-unless (s .spoiled) OfferSpoiled f _ _
+      (carried-unless (s .round .offered) OfferedAlready f _ _
+      (carried-unless (noPlace s) NoPlaceLeft f _ _
+      (carried-unless (tooSoon p s) OfferTooSoon f _ _
+      (carried-if (canCarry (s .view) (s .turn) (s .best)) NoLawfulParent f y))))))
 
   -- a seat that may offer has a place
   places : {X : Type 0} (x : X) → mayOffer p leader s x ≡ Ok x → noPlace s ≡ false
@@ -102,32 +89,33 @@ pub record Steps {L S : ℕ} {R : Type 0} (k : Kind L R) (s : State S R) (out : 
   pub outbox-is : out′ ≡ boxAfter k out r
 
 module _ {L S : ℕ} {R : Type 0} (k : Kind L R) (p : Terms) (leader : ℕ → ℕ) (s : State S R) (bs : List (Block R)) where
-  refuses : (r : Result (Outcome S R) Refusal) (e : Refusal) (answer : Result Answer Refusal) (out : List ℕ) → r ≡ Err e → answer ≡ Err e → Steps k s out r answer s out
-  refuses r e answer out h a =
-      subst (λ (x : Result (Outcome S R) Refusal). Steps k s out x answer s out) (sym h) (record { answer-is = a; state-is = refl; outbox-is = refl })
+  -- the refusal e, passed on as d
+  refuses : (r : Result (Outcome S R) Refusal) (e d : Refusal) (answer : Result Answer Refusal) (out : List ℕ) → r ≡ Err e → answer ≡ Err d → d ≡ e → Steps k s out r answer s out
+  refuses r e d answer out h a b =
+      subst (λ (x : Result (Outcome S R) Refusal). Steps k s out x answer s out) (sym h) (record { answer-is = a ∙ ap (λ x. Err x) b; state-is = refl; outbox-is = refl })
 
   -- bytes that are no content
-  pub offer-unread : (bytes : List ℕ) (e : Refusal) (answer : Result Answer Refusal) (out : List ℕ) → readContent k bytes ≡ Err e → answer ≡ Err e →
-    Steps k s out (offerStep k p leader s bs bytes) answer s out
-  offer-unread bytes e answer out h a =
-      refuses (offerStep k p leader s bs bytes) e answer out (ap (λ r. next r (λ content. mayOffer p leader s (offers p s bs content))) h) a
+  pub offer-unread : (bytes : List ℕ) (e d : Refusal) (answer : Result Answer Refusal) (out : List ℕ) → Err e ≡ readContent k bytes → answer ≡ Err d → d ≡ e →
+      Steps k s out (offerStep k p leader s bs bytes) answer s out
+  offer-unread bytes e d answer out h a b =
+      refuses (offerStep k p leader s bs bytes) e d answer out (sym (ap (λ r. next r (λ content. mayOffer p leader s (offers p s bs content))) h)) a b
 
-  offer-is : (bytes : List ℕ) (content : R) (r : Result (Unit {0}) Refusal) → readContent k bytes ≡ Ok content → r ≡ mayOffer p leader s (tt {0}) →
-    offerStep k p leader s bs bytes ≡ carried (λ _. offers p s bs content) r
+  offer-is : (bytes : List ℕ) (content : R) (r : Result (Unit {0}) Refusal) → Ok content ≡ readContent k bytes → r ≡ mayOffer p leader s (tt {0}) →
+      offerStep k p leader s bs bytes ≡ carried (λ _. offers p s bs content) r
   offer-is bytes content r h a =
-      ap (λ r. next r (λ content. mayOffer p leader s (offers p s bs content))) h ∙ (may-carried p leader s (offers p s bs content) ∙ ap (λ x. carried (λ _. offers p s bs content) x) (sym a))
+      sym (ap (λ r. next r (λ content. mayOffer p leader s (offers p s bs content))) h) ∙ (may-carried p leader s (λ _. offers p s bs content) (tt {0}) ∙ ap (λ x. carried (λ _. offers p s bs content) x) (sym a))
 
   -- a seat that may not offer
-  pub offer-barred : (bytes : List ℕ) (content : R) (e : Refusal) (answer : Result Answer Refusal) (out : List ℕ) → readContent k bytes ≡ Ok content → Err e ≡ mayOffer p leader s (tt {0}) →
-    answer ≡ Err e → Steps k s out (offerStep k p leader s bs bytes) answer s out
-  offer-barred bytes content e answer out h a b = refuses (offerStep k p leader s bs bytes) e answer out (offer-is bytes content (Err e) h a) b
+  pub offer-barred : (bytes : List ℕ) (content : R) (e d : Refusal) (answer : Result Answer Refusal) (out : List ℕ) → Ok content ≡ readContent k bytes →
+      Err e ≡ mayOffer p leader s (tt {0}) → answer ≡ Err d → d ≡ e → Steps k s out (offerStep k p leader s bs bytes) answer s out
+  offer-barred bytes content e d answer out h a b f = refuses (offerStep k p leader s bs bytes) e d answer out (offer-is bytes content (Err e) h a) b f
 
   -- a seat that may
-  pub offer-made : (bytes : List ℕ) (content : R) (answer : Answer) (s′ : State S R) (out out′ : List ℕ) → readContent k bytes ≡ Ok content → Ok (tt {0}) ≡ mayOffer p leader s (tt {0}) →
-    Shows k (offers p s bs content) answer s′ out out′ → Steps k s out (offerStep k p leader s bs bytes) (Ok answer) s′ out′
+  pub offer-made : (bytes : List ℕ) (content : R) (answer : Answer) (s′ : State S R) (out out′ : List ℕ) → Ok content ≡ readContent k bytes → Ok (tt {0}) ≡ mayOffer p leader s (tt {0}) →
+      Shows k (offers p s bs content) answer s′ out out′ → Steps k s out (offerStep k p leader s bs bytes) (Ok answer) s′ out′
   offer-made bytes content answer s′ out out′ h a w =
       subst (λ (x : Result (Outcome S R) Refusal). Steps k s out x (Ok answer) s′ out′) (sym (offer-is bytes content (Ok (tt {0})) h a))
-        (record { answer-is = ap (λ x. Ok x) (w .answer-is); state-is = w .state-is; outbox-is = w .outbox-is })
+      (record { answer-is = ap (λ x. Ok x) (w .answer-is); state-is = w .state-is; outbox-is = w .outbox-is })
 
 module _ {S : ℕ} {R : Type 0} (p : Terms) (leader : ℕ → ℕ) (s : State S R) where
   pub offer-places : Ok (tt {0}) ≡ mayOffer p leader s (tt {0}) → (s .turn ≤ 65535) × (nextHeight (s .best) ≤ 4294967295)
@@ -135,14 +123,52 @@ module _ {S : ℕ} {R : Type 0} (p : Terms) (leader : ℕ → ℕ) (s : State S 
 
 module _ {L S : ℕ} {R : Type 0} (k : Kind L R) (p : Terms) where
   -- the proposal, written
-  pub proposes : (s : State S R) (content : R) (block : Block R) (item : Item) (out out′ : List ℕ) → block ≡ offeredBlock s content →
-    Some item ≡ itemAt k 0 (Some (write (Proposal block (zeroSeal S) (bestBody p S (s .best))))) →
-    out′ ≡ putItem k 0 (Some (write (Proposal block (zeroSeal S) (bestBody p S (s .best))))) out →
-    Shows k (offers p s [] content) (record { word = Offered; height = 0; certificate = None; message = Some item; blame = None }) (withOffered true s) out out′
-  proposes s content block item out out′ eb ei eo =
-      let message : Block R → Option (Sending R) = λ b. Some (write (Proposal b (zeroSeal S) (bestBody p S (s .best)))) in
+  pub proposes : (s s1 : State S R) (content : R) (block : Block R) (item : Item) (out out′ : List ℕ) → block ≡ offeredBlock s content → s1 ≡ withOffered true s →
+      Some item ≡ itemAt k 0 (Some (write (Proposal block (zeroSeal S) (bestBody p S (s1 .best))))) →
+      out′ ≡ putItem k 0 (Some (write (Proposal block (zeroSeal S) (bestBody p S (s1 .best))))) out →
+      Shows k (offers p s [] content) (record { word = Offered; height = 0; certificate = None; message = Some item; blame = None }) s1 out out′
+  proposes s s1 content block item out out′ eb es ei eo =
+      let message : Block R → State S R → Option (Sending R) = λ b x. Some (write (Proposal b (zeroSeal S) (bestBody p S (x .best)))) in
       record {
-        answer-is = ap (λ (m : Option Item). record { word = Offered; height = 0; certificate = None; message = m; blame = None }) (ei ∙ ap (λ b. itemAt k 0 (message b)) eb);
-        state-is = refl;
-        outbox-is = eo ∙ ap (λ b. putItem k 0 (message b) out) eb;
+        answer-is = ap (λ (m : Option Item). record { word = Offered; height = 0; certificate = None; message = m; blame = None })
+            (ei ∙ (ap (λ b. itemAt k 0 (message b s1)) eb ∙ ap (λ x. itemAt k 0 (message (offeredBlock s content) x)) es));
+        state-is = es;
+        outbox-is = eo ∙ (ap (λ b. putItem k 0 (message b s1) out) eb ∙ ap (λ x. putItem k 0 (message (offeredBlock s content) x) out) es);
       }
+
+-- an offer does not see the blocks, and leaves them alone
+module _ {L S : ℕ} {R : Type 0} (k : Kind L R) (p : Terms) (leader : ℕ → ℕ) (s : State S R) (bs : List (Block R)) where
+  over-next : (r : Result R Refusal) → next r (λ c. mayOffer p leader s (offers p s bs c)) ≡ carried (over bs) (next r (λ c. mayOffer p leader s (offers p s [] c)))
+  over-next (Ok c) = may-carried p leader s (over bs) (offers p s [] c)
+  over-next (Err e) = refl
+
+  offer-over : (bytes : List ℕ) → offerStep k p leader s bs bytes ≡ carried (over bs) (offerStep k p leader s [] bytes)
+  offer-over bytes = over-next (readContent k bytes)
+
+  answer-over : (r : Result (Outcome S R) Refusal) → answerAfter k (carried (over bs) r) ≡ answerAfter k r
+  answer-over (Ok o) = refl
+  answer-over (Err e) = refl
+
+  state-over : (r : Result (Outcome S R) Refusal) → stepState s (carried (over bs) r) ≡ stepState s r
+  state-over (Ok o) = refl
+  state-over (Err e) = refl
+
+  box-over : (out : List ℕ) (r : Result (Outcome S R) Refusal) → boxAfter k out (carried (over bs) r) ≡ boxAfter k out r
+  box-over out (Ok o) = refl
+  box-over out (Err e) = refl
+
+  blocks-over : (r : Result (Outcome S R) Refusal) → blocksAfter bs (carried (over bs) r) ≡ bs
+  blocks-over (Ok o) = refl
+  blocks-over (Err e) = refl
+
+  pub offer-answers : (bytes : List ℕ) → answerAfter k (offerStep k p leader s [] bytes) ≡ answerAfter k (offerStep k p leader s bs bytes)
+  offer-answers bytes = sym (ap (λ r. answerAfter k r) (offer-over bytes) ∙ answer-over (offerStep k p leader s [] bytes))
+
+  pub offer-states : (bytes : List ℕ) → stepState s (offerStep k p leader s [] bytes) ≡ stepState s (offerStep k p leader s bs bytes)
+  offer-states bytes = sym (ap (λ r. stepState s r) (offer-over bytes) ∙ state-over (offerStep k p leader s [] bytes))
+
+  pub offer-boxes : (bytes out : List ℕ) → boxAfter k out (offerStep k p leader s [] bytes) ≡ boxAfter k out (offerStep k p leader s bs bytes)
+  offer-boxes bytes out = sym (ap (λ r. boxAfter k out r) (offer-over bytes) ∙ box-over out (offerStep k p leader s [] bytes))
+
+  pub offer-blocks : (bytes : List ℕ) → blocksAfter bs (offerStep k p leader s bs bytes) ≡ bs
+  offer-blocks bytes = ap (λ r. blocksAfter bs r) (offer-over bytes) ∙ blocks-over (offerStep k p leader s [] bytes)

@@ -90,12 +90,12 @@ module _ {L S : ℕ} {R : Type 0} (k : Kind L R) (p : Terms) where
       (entered-shows s1 [] bs (s1 .spoiled) answer s2 out out′ h)
 
   -- a seat that is spoiled as it enters
-  pub entered-blames : (s : State S R) (bs : List (Block R)) (b : Bool) (item : Item) (out out′ : List ℕ) → b ≡ true →
-      Some item ≡ itemAt k 0 (Some (ownBlame p s)) → out′ ≡ putItem k 0 (Some (ownBlame p s)) out →
-      Shows k (enteredAt p s bs b) (record { word = Blamed; height = 0; certificate = None; message = None; blame = Some item }) (withBlamed true s) out out′
-  entered-blames s bs b item out out′ e ei eo =
-      subst (λ v. Shows k (enteredAt p s bs v) (record { word = Blamed; height = 0; certificate = None; message = None; blame = Some item }) (withBlamed true s) out out′) (sym e)
-      (record { answer-is = rw ei refl; state-is = refl; outbox-is = eo })
+  pub entered-blames : (s s1 : State S R) (bs : List (Block R)) (b : Bool) (item : Item) (out out′ : List ℕ) → b ≡ true →
+      Some item ≡ itemAt k 0 (Some (ownBlame p s)) → s1 ≡ withBlamed true s → out′ ≡ putItem k 0 (Some (ownBlame p s)) out →
+      Shows k (enteredAt p s bs b) (record { word = Blamed; height = 0; certificate = None; message = None; blame = Some item }) s1 out out′
+  entered-blames s s1 bs b item out out′ e ei es eo =
+      subst (λ v. Shows k (enteredAt p s bs v) (record { word = Blamed; height = 0; certificate = None; message = None; blame = Some item }) s1 out out′) (sym e)
+      (record { answer-is = rw ei refl; state-is = es; outbox-is = eo })
 
   -- the blame after the vote, by whether it is due
   blame-shows : (d : Bool) (word last : Word) (msg : Option (Sending R)) (s s2 : State S R) (bs : List (Block R)) (m b : Option Item) (from : ℕ) (out out1 out2 : List ℕ) →
@@ -195,7 +195,20 @@ module _ {S : ℕ} {R : Type 0} (p : Terms) where
 
 module _ {L S : ℕ} {R : Type 0} (k : Kind L R) (p : Terms) where
   pub on-ticks : (phase : Phase) (s s1 : State S R) (bs : List (Block R)) (answer : Answer) (out out′ : List ℕ) → phase ≡ On →
-    Shows k (onTick p (s .round .note) s []) answer s1 out out′ → Shows k (ticked p phase s bs) answer s1 out out′
+      Shows k (onTick p (s .round .note) s []) answer s1 out out′ → Shows k (ticked p phase s bs) answer s1 out out′
   on-ticks phase s s1 bs answer out out′ e h =
       subst (λ (o : Outcome S R). Shows k o answer s1 out out′) (sym (tick-on p phase s bs e))
-        (record { answer-is = h .answer-is; state-is = h .state-is; outbox-is = h .outbox-is })
+      (record { answer-is = h .answer-is; state-is = h .state-is; outbox-is = h .outbox-is })
+
+-- an outbox has room for a vote and a blame
+pub room-on : (L S room : ℕ) → L ≤ 64 → S ≤ 64 → 1024 ≤ room → 18 + L + (S + S) ≤ room
+room-on L S room hl hs hr = omega arith
+
+pub room-leaving : (S room : ℕ) → S ≤ 64 → 1024 ≤ room → 4 + S ≤ room
+room-leaving S room hs hr = omega arith
+
+pub room-blame : (S room : ℕ) → 4 + S ≤ room → 0 + (4 + S) ≤ room
+room-blame S room h = omega arith
+
+pub room-vote : (L S room : ℕ) → 18 + L + (S + S) ≤ room → 14 + L + S ≤ room
+room-vote L S room h = omega arith

@@ -1,7 +1,7 @@
 // An offer of the seat's own entry.
 ghost use mathlib.Core.Path.{_≡_};
 ghost use Prim.Native.Nat.{_+_, _*_, _≤_};
-ghost use mathlib.Core.Bool.{cond, _&&_};
+ghost use mathlib.Core.Bool.{true, cond, _&&_};
 ghost use mathlib.Core.List.{[]};
 ghost use lib.Dec.{eqb, ltb};
 ghost use lib.ListN.{length, take};
@@ -10,6 +10,7 @@ ghost use Rattle.wire.specs.Masks.{quorum};
 ghost use Rattle.wire.specs.declared.message.Parts.the-variants.{Proposal};
 ghost use Rattle.seat.specs.Calls.{answerAfter, boxAfter, stepState};
 ghost use Rattle.seat.specs.Offer.{bestBody, canCarry, mayOffer, nextHeight, noPlace, offeredBlock, offers, offerStep, rankOfBest, tooSoon};
+ghost use Rattle.seat.specs.Parts.{withOffered};
 ghost use Rattle.seat.specs.Sends.{answerOf, itemAt, outboxAfter, putItem, write};
 use crate::answer::Answer;
 use crate::answer::Item;
@@ -26,6 +27,11 @@ use wire::block::Block;
 use wire::block::Rank;
 use wire::message::Certificate;
 use wire::message::Parts;
+
+// The last turn and the last height that a block can have.
+const LAST_TURN: u32 = 65535;
+
+const LAST_HEIGHT: u64 = 4294967295;
 
 // The height above best.
 fn next_height<R>(best: &Option<Best<R>>) -> u64
@@ -71,15 +77,14 @@ impl<const S: usize, R: Copy> State<S, R> {
     fn no_place(&self) -> bool
         ensures { λ r. ⌜ r ≡ noPlace (now (self .entry)) ⌝ }
     {
-        (self.turn > 65535) | (next_height(&self.best) > 4294967295)
+        (self.turn > LAST_TURN) | (next_height(&self.best) > LAST_HEIGHT)
     }
 
     // Soon after entering a view above 0 nothing is offered.
     fn too_soon(&self, terms: &Terms) -> bool
         ensures { λ r. ⌜ r ≡ tooSoon (now (terms .entry)) (now (self .entry)) ⌝ }
     {
-        (0 < self.view)
-            & (self.now.saturating_sub(self.entered) < 2 * terms.delta as u32 + 1)
+        (0 < self.view) & (self.now.saturating_sub(self.entered) < 2 * terms.delta as u32 + 1)
     }
 
     // Whether this seat leads its view.
@@ -117,12 +122,14 @@ impl<const S: usize, R: Copy> State<S, R> {
         Ok(())
     }
 
-    // The block on top of best.
-    fn offered_block(&self, content: R) -> Block<R>
+    // The block on top of best: one is offered a turn.
+    fn offered_block(&mut self, content: R) -> Block<R>
         requires turn { ⌜ now self .turn ≤ 65535 ⌝ }
         requires height { ⌜ nextHeight (now self .best) ≤ 4294967295 ⌝ }
-        ensures { λ r. ⌜ r ≡ offeredBlock (now (self .entry)) content ⌝ }
+        ensures block { λ r. ⌜ r ≡ offeredBlock (now (self .entry)) content ⌝ }
+        ensures state { λ _. ⌜ now (self .exit) ≡ withOffered true (now (self .entry)) ⌝ }
     {
+        self.round.offered = true;
         Block {
             rank: Rank {
                 view: self.view,
@@ -201,7 +208,6 @@ fn propose<const L: usize, const S: usize, C: Content<L>>(
     ensures outbox { λ _. ⌜ now (outbox .exit) ≡ outboxAfter (C·Content .kind) (offers (now (terms .entry)) (now (state .entry)) [] content .sends) (now (outbox .entry)) ⌝ }
 {
     let block = state.offered_block(content);
-    state.round.offered = true;
     // the signing box fills the seal in
     let seal = [0u8; S];
     let message = put_proposal::<L, S, C>(terms, block, &seal, &state.best, outbox);

@@ -1,13 +1,15 @@
 // One tick of the clock.
 ghost use mathlib.Core.Path.{_≡_};
 ghost use Prim.Native.Nat.{_+_, _-_, _*_, _<_, _≤_};
-ghost use mathlib.Core.Bool.{cond};
+ghost use mathlib.Core.Bool.{true, cond};
 ghost use mathlib.Core.List.{[]};
 ghost use lib.Dec.{eqb, leb};
 ghost use lib.ListN.{length};
 ghost use Rattle.std.specs.Options.{isSome};
 ghost use Rattle.std.specs.declared.option.Option.the-variants.{None, Some};
 ghost use Rattle.shelf.specs.Blocks.{held};
+ghost use Rattle.seat.specs.HandIn.{ownBlame};
+ghost use Rattle.seat.specs.Parts.{withBlamed};
 ghost use Rattle.seat.specs.Sends.{answerOf, itemAt, outboxAfter, putItem};
 ghost use Rattle.seat.specs.Tick.{afterBlame, afterVote, blameDue, blameOf, enter, enteredAt, leavingTick, onTick, placeOf, ripe, tickStep, turnAfter, voteDue, voteOf};
 ghost use Rattle.seat.specs.declared.answer.Word.the-variants.{Blamed, Idle, Voted};
@@ -97,6 +99,22 @@ fn turn_after(top: Option<u16>) -> u32
     }
 }
 
+// Blames the view, once.
+fn blame<const L: usize, const S: usize, C: Content<L>>(
+    terms: &Terms,
+    state: &mut State<S, C::Record>,
+    outbox: &mut [u8],
+    from: usize,
+) -> Item
+    requires { ⌜ from + (4 + S) ≤ length (now outbox) ⌝ }
+    ensures item { λ r. ⌜ Some r ≡ itemAt (C·Content .kind) from (Some (ownBlame (now (terms .entry)) (now (state .entry)))) ⌝ }
+    ensures state { λ _. ⌜ now (state .exit) ≡ withBlamed true (now (state .entry)) ⌝ }
+    ensures outbox { λ _. ⌜ now (outbox .exit) ≡ putItem (C·Content .kind) from (Some (ownBlame (now (terms .entry)) (now (state .entry)))) (now (outbox .entry)) ⌝ }
+{
+    state.blamed = true;
+    put_blame::<L, S, C>(terms, state.view, outbox, from)
+}
+
 // A seat that entered a view blames it if it is spoiled.
 fn entered<const L: usize, const S: usize, C: Content<L>>(
     terms: &Terms,
@@ -111,13 +129,12 @@ fn entered<const L: usize, const S: usize, C: Content<L>>(
     if !state.spoiled {
         return Answer::of(Word::Entered);
     }
-    state.blamed = true;
     Answer {
         word: Word::Blamed,
         height: 0,
         certificate: None,
         message: None,
-        blame: Some(put_blame::<L, S, C>(terms, state.view, outbox, 0)),
+        blame: Some(blame::<L, S, C>(terms, state, outbox, 0)),
     }
 }
 
@@ -157,8 +174,7 @@ fn blame_if_due<const L: usize, const S: usize, C: Content<L>>(
     if !state.blame_due(terms) {
         return None;
     }
-    state.blamed = true;
-    Some(put_blame::<L, S, C>(terms, state.view, outbox, from))
+    Some(blame::<L, S, C>(terms, state, outbox, from))
 }
 
 // Votes for a note whose time has come: where the vote lies.

@@ -10,5 +10,5 @@ returns g c =
     record {
       row = row-is (c .args .terms .now .seats .n) (g .S) (c .quorum .result) (c .args .best .now .seals) (c .quorum .ensures);
       size = row-short (c .quorum .result * g .S) (c .args .best .now .seals)
-        (row-fits (c .args .terms .now .seats .n) (g .S) (c .quorum .result) (c .args .terms .now .seats .lawful) (c .pre) (c .quorum .ensures));
+          (row-fits (c .args .terms .now .seats .n) (g .S) (c .quorum .result) (c .args .terms .now .seats .lawful) (c .pre) (c .quorum .ensures));
     }

@@ -2,8 +2,12 @@ use mathlib.Core.List.{[]}
 use Prim.Native.Nat.{_+_, _≤_}
 use borrow.Author.Needs.{needs}
 use native.Mathlib.Omega.{arith}
-use Rattle.seat.proofs.Ticks.{on-shows, vote-ends}
+use lib.ListN.{length}
+use Rattle.seat.proofs.Ticks.{on-shows, room-vote, vote-ends}
 use Rattle.seat.proofs.ticking.on_tick.Needs as need
+
+pub vote-if-due-message-requires : need.vote-if-due-message-requires
+vote-if-due-message-requires g c κs = (search needs, room-vote (g .L) (g .S) (length (c .args .outbox .now)) (c .pre))
 
 pub blame-if-due-blame-requires : need.blame-if-due-blame-requires
 blame-if-due-blame-requires g c κs = (
