@@ -2,3 +2,4 @@ pub mod Offers
 pub mod Ticks
 pub mod Certificates
 pub mod Doing
+pub mod Counts

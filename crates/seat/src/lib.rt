@@ -1,5 +1,6 @@
 // One seat of the log: what it keeps, and what it does with each message, tick and offer.
 pub mod answer;
+pub(crate) mod counting;
 pub(crate) mod handling;
 pub(crate) mod offering;
 pub(crate) mod sending;
