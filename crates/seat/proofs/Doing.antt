@@ -32,10 +32,10 @@ module _ {L S : ℕ} {R : Type 0} (k : Kind L R) {s : State S R} {bs : List (Blo
       outbox = h .outbox ∙ ap (λ x. boxAfter k out x) e }
 
 module _ {S : ℕ} {R : Type 0} (s : State S R) (bs : List (Block R)) (view : ℕ) where
-  skips : {X : Type 0} (x y z : X) (b : Bool) → (view ≡ lastView → ⊥) → false ≡ b → z ≡ cond (eqb view lastView) x (cond b y z)
+  pub skips : {X : Type 0} (x y z : X) (b : Bool) → (view ≡ lastView → ⊥) → false ≡ b → z ≡ cond (eqb view lastView) x (cond b y z)
   skips x y z b n h = grind (arith, tells)
 
-  takes : {X : Type 0} (x y z : X) (b : Bool) → (view ≡ lastView → ⊥) → true ≡ b → y ≡ cond (eqb view lastView) x (cond b y z)
+  pub takes : {X : Type 0} (x y z : X) (b : Bool) → (view ≡ lastView → ⊥) → true ≡ b → y ≡ cond (eqb view lastView) x (cond b y z)
   takes x y z b n h = grind (arith, tells)
 
   pub notice-idle : (view ≡ lastView → ⊥) → false ≡ leavesBy s view → Ok (idle s bs) ≡ notice s bs view

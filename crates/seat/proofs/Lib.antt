@@ -1,5 +1,6 @@
-pub mod Offers
-pub mod Ticks
 pub mod Certificates
+pub mod Counts
 pub mod Doing
+pub mod Offers
 pub mod Proposals
+pub mod Ticks

@@ -3,7 +3,7 @@ use Prim.Native.Nat.{ℕ, _+_, _-_, _*_}
 use mathlib.Core.Bool.{Bool, true, false, cond, not, _&&_, _||_}
 use mathlib.Core.List.{List, [], _∷_, _++_}
 use lib.Dec.{eqb, ltb}
-use lib.ListN.{getD, set}
+use lib.ListN.{getD, set, take}
 use Rattle.std.specs.Options.{isSome}
 use Rattle.std.specs.declared.option.Option.{Option}
 use Rattle.std.specs.declared.option.Option.the-variants.{Some, None}
@@ -12,6 +12,7 @@ use Rattle.std.specs.declared.result.Result.the-variants.{Ok, Err}
 use Rattle.content.specs.Kinds.{Kind}
 use Rattle.content.specs.declared.refusal.Refusal.{Refusal}
 use Rattle.content.specs.declared.refusal.Refusal.the-variants.{LastView}
+use Rattle.wire.specs.Keeping.{padded}
 use Rattle.wire.specs.Masks.{countKept, maskKept, quorum, rowKept}
 use Rattle.wire.specs.Ranks.{atLeast, parentOf}
 use Rattle.wire.specs.Layout.{sameBlock}
@@ -43,6 +44,10 @@ hasSeal row i = isSome (getD (row .«by_seat») i None)
 
 abbrev pub addSeal : {S : ℕ} → SealRow S → ℕ → List ℕ → SealRow S
 addSeal row i seal = record { «by_seat» = set (row .«by_seat») i (Some seal) }
+
+-- the kept seals in a row
+abbrev pub rowOf : {S : ℕ} → SealRow S → List ℕ
+rowOf {S} row = take (countKept (row .«by_seat») * S) (padded 512 (rowKept (row .«by_seat»)))
 
 -- a quorum of seals is there
 abbrev pub quorate : {S : ℕ} → Terms → SealRow S → Bool
@@ -120,7 +125,7 @@ module _ {S : ℕ} {R : Type 0} where
 
   -- the certificate of a block from the votes kept for it
   abbrev pub certificateOf : Block R → SealRow S → Certificate R (List ℕ)
-  certificateOf b votes = record { block = b; mask = maskKept (votes .«by_seat»); seals = rowKept (votes .«by_seat») }
+  certificateOf b votes = record { block = b; mask = maskKept (votes .«by_seat»); seals = rowOf votes }
 
   -- the vote that completes a quorum makes a certificate; if its block is on the shelf already, the vote is only counted
   abbrev pub completed : State S R → List (Block R) → Certificate R (List ℕ) → Verdict → Outcome S R
@@ -129,7 +134,7 @@ module _ {S : ℕ} {R : Type 0} where
 
   -- the notice of a view from the blames kept for it
   abbrev pub noticeOf : ℕ → SealRow S → Parts R (List ℕ)
-  noticeOf view blames = Notice view (maskKept (blames .«by_seat»)) (rowKept (blames .«by_seat»))
+  noticeOf view blames = Notice view (maskKept (blames .«by_seat»)) (rowOf blames)
 
   -- a notice ends the seat's own view while it is on, or leads it out of a higher one
   abbrev pub leavesBy : State S R → ℕ → Bool

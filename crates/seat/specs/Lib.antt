@@ -1,4 +1,5 @@
 pub mod Answers
+pub mod Called
 pub mod Calls
 pub mod Does
 pub mod HandIn

@@ -1,9 +1,12 @@
 // One seat of the log: what it keeps, and what it does with each message, tick and offer.
 pub mod answer;
+pub(crate) mod counting;
 pub(crate) mod handling;
 pub(crate) mod offering;
 pub(crate) mod proposing;
+pub mod seat;
 pub(crate) mod sending;
+pub mod slip;
 pub mod state;
 pub(crate) mod taking;
 pub(crate) mod ticking;
