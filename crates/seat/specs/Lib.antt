@@ -1,5 +1,4 @@
 pub mod Answers
-pub mod Called
 pub mod Calls
 pub mod Does
 pub mod HandIn
