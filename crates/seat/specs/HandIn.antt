@@ -45,6 +45,9 @@ hasSeal row i = isSome (getD (row .«by_seat») i None)
 abbrev pub addSeal : {S : ℕ} → SealRow S → ℕ → List ℕ → SealRow S
 addSeal row i seal = record { «by_seat» = set (row .«by_seat») i (Some seal) }
 
+abbrev pub dropSeal : {S : ℕ} → SealRow S → ℕ → SealRow S
+dropSeal row i = record { «by_seat» = set (row .«by_seat») i None }
+
 -- the kept seals in a row
 abbrev pub rowOf : {S : ℕ} → SealRow S → List ℕ
 rowOf {S} row = take (countKept (row .«by_seat») * S) (padded 512 (rowKept (row .«by_seat»)))
