@@ -26,7 +26,7 @@ use Rattle.wire.specs.declared.message.Parts.{Parts}
 use Rattle.wire.specs.declared.message.Parts.the-variants.{Certified, Notice}
 use Rattle.wire.specs.declared.rows.SealRow.{SealRow}
 use Rattle.seat.specs.Does.{Does}
-use Rattle.seat.specs.HandIn.{addSeal, blame, blameCounts, carried, certificateOf, completed, countable, counted, dropSeal, hasSeal, idle, isNote, lastView, leaves, noticeOf, quorate, rowOf, vote, voteCounts}
+use Rattle.seat.specs.HandIn.{addSeal, blame, blameCounts, carried, certificateOf, completed, countable, counted, countsBlame, dropSeal, hasSeal, idle, isNote, lastView, leaves, noticeOf, quorate, rowOf, vote, voteCounts}
 use Rattle.seat.specs.Parts.{isOn, withBlames, withVotes}
 use Rattle.seat.specs.Sends.{Outcome, itemAt, putItem, write}
 use Rattle.seat.specs.TakeIn.{heightOf, judgeIn, shelve}
@@ -71,7 +71,7 @@ module _ {S : ℕ} (kept : SealRow S) where
   seals-of count s c few = seals-fit S count s (omega (arith, c))
 
   pub row-holds : (count : ℕ) (row : List ℕ) → S ≤ 64 → count ≡ countKept (kept .«by_seat») → countKept (kept .«by_seat») ≤ 8 → row ≡ padded 512 (rowKept (kept .«by_seat»)) →
-    count * S ≤ length row
+      count * S ≤ length row
   row-holds count row s c few r =
       let m : count * S ≤ 512 = seals-of count s c few in
       let l : length row ≡ 512 = ap length r ∙ padded-length 512 (rowKept (kept .«by_seat»)) in
@@ -82,56 +82,56 @@ module _ {S : ℕ} (kept : SealRow S) where
       let m : count * S ≤ 512 = seals-of count s c few in
       omega (arith, length-take (count * S - 0) row)
 
-  pub row-of : (count : ℕ) (row : List ℕ) → count ≡ countKept (kept .«by_seat») → row ≡ padded 512 (rowKept (kept .«by_seat»)) →
-    take (count * S - 0) row ≡ rowOf kept
+  row-of : (count : ℕ) (row : List ℕ) → count ≡ countKept (kept .«by_seat») → row ≡ padded 512 (rowKept (kept .«by_seat»)) →
+      take (count * S - 0) row ≡ rowOf kept
   row-of count row c r = rw (sub-zero (count * S), c, r) refl
 
   -- the notice as it is written
   pub notice-of : {R : Type 0} (view mask count : ℕ) (row : List ℕ) → mask ≡ maskKept (kept .«by_seat») → count ≡ countKept (kept .«by_seat») → row ≡ padded 512 (rowKept (kept .«by_seat»)) →
-    _≡_ {A = Parts R (List ℕ)} (Notice view mask (take (count * S - 0) row)) (noticeOf view kept)
+      _≡_ {A = Parts R (List ℕ)} (Notice view mask (take (count * S - 0) row)) (noticeOf view kept)
   notice-of view mask count row m c r = ap (λ x. Notice view x (take (count * S - 0) row)) m ∙ ap (λ x. Notice view (maskKept (kept .«by_seat»)) x) (row-of count row c r)
 
   -- the certificate as it is written
   pub certificate-of : {R : Type 0} (b : Block R) (mask count : ℕ) (row : List ℕ) → mask ≡ maskKept (kept .«by_seat») → count ≡ countKept (kept .«by_seat») → row ≡ padded 512 (rowKept (kept .«by_seat»)) →
-    _≡_ {A = Certificate R (List ℕ)} (record { block = b; mask = mask; seals = take (count * S - 0) row }) (certificateOf b kept)
+      _≡_ {A = Certificate R (List ℕ)} (record { block = b; mask = mask; seals = take (count * S - 0) row }) (certificateOf b kept)
   certificate-of {R} b mask count row m c r =
       ap (λ x. record { block = b; mask = x; seals = take (count * S - 0) row }) m
       ∙ ap (λ (x : List ℕ). record { block = b; mask = maskKept (kept .«by_seat»); seals = x }) (row-of count row c r)
 
 module _ {S : ℕ} {R : Type 0} (p : Terms) (s : State S R) (bs : List (Block R)) (i view : ℕ) (seal : List ℕ) where
-  abbrev pub countsBlame : Bool
-  countsBlame = isOn (s .phase) && (eqb (s .view) view && not (hasSeal (s .blames) i))
+  pub blame-idle : (view ≡ lastView → ⊥) → false ≡ countsBlame s i view → Ok (idle s bs) ≡ blame p s bs i view seal
+  blame-idle n h = skips s bs view (Err LastView) (Ok (blameCounts p (withBlames (addSeal (s .blames) i seal) s) bs view)) (Ok (idle s bs)) (countsBlame s i view) n h
 
-  pub blame-idle : (view ≡ lastView → ⊥) → false ≡ countsBlame → Ok (idle s bs) ≡ blame p s bs i view seal
-  blame-idle n h = skips s bs view (Err LastView) (Ok (blameCounts p (withBlames (addSeal (s .blames) i seal) s) bs view)) (Ok (idle s bs)) countsBlame n h
-
-  blame-counts : (t : State S R) → (view ≡ lastView → ⊥) → true ≡ countsBlame → t ≡ withBlames (addSeal (s .blames) i seal) s → Ok (blameCounts p t bs view) ≡ blame p s bs i view seal
+  blame-counts : (t : State S R) → (view ≡ lastView → ⊥) → true ≡ countsBlame s i view → t ≡ withBlames (addSeal (s .blames) i seal) s → Ok (blameCounts p t bs view) ≡ blame p s bs i view seal
   blame-counts t n h e =
       ap (λ u. Ok (blameCounts p u bs view)) e
-      ∙ takes s bs view (Err LastView) (Ok (blameCounts p (withBlames (addSeal (s .blames) i seal) s) bs view)) (Ok (idle s bs)) countsBlame n h
+      ∙ takes s bs view (Err LastView) (Ok (blameCounts p (withBlames (addSeal (s .blames) i seal) s) bs view)) (Ok (idle s bs)) (countsBlame s i view) n h
 
-  pub blame-counted : (t : State S R) → (view ≡ lastView → ⊥) → true ≡ countsBlame → t ≡ withBlames (addSeal (s .blames) i seal) s → false ≡ quorate p (t .blames) →
-    Ok (counted t bs) ≡ blame p s bs i view seal
+  pub blame-counted : (t : State S R) → (view ≡ lastView → ⊥) → true ≡ countsBlame s i view → t ≡ withBlames (addSeal (s .blames) i seal) s → false ≡ quorate p (t .blames) →
+      Ok (counted t bs) ≡ blame p s bs i view seal
   blame-counted t n h e q =
       ap (λ o. Ok o) (second (leaves t bs view (write (noticeOf view (t .blames)))) (counted t bs) (quorate p (t .blames)) q) ∙ blame-counts t n h e
 
-  pub blame-leaves : (t : State S R) → (view ≡ lastView → ⊥) → true ≡ countsBlame → t ≡ withBlames (addSeal (s .blames) i seal) s → true ≡ quorate p (t .blames) →
-    Ok (leaves t bs view (write (noticeOf view (t .blames)))) ≡ blame p s bs i view seal
+  pub blame-leaves : (t : State S R) → (view ≡ lastView → ⊥) → true ≡ countsBlame s i view → t ≡ withBlames (addSeal (s .blames) i seal) s → true ≡ quorate p (t .blames) →
+      Ok (leaves t bs view (write (noticeOf view (t .blames)))) ≡ blame p s bs i view seal
   blame-leaves t n h e q =
       ap (λ o. Ok o) (first (leaves t bs view (write (noticeOf view (t .blames)))) (counted t bs) (quorate p (t .blames)) q) ∙ blame-counts t n h e
 
 module _ {L S : ℕ} {R : Type 0} (k : Kind L R) (s : State S R) (bs : List (Block R)) (out : List ℕ) (b : Block R) where
   -- a certificate written and taken in
   pub certifies : (c : Certificate R (List ℕ)) (item : Item) (height : ℕ) (s′ : State S R) (bs′ : List (Block R)) (out′ : List ℕ) → c ≡ certificateOf b (s .round .votes) →
-    Some item ≡ itemAt k 0 (Some (write (Certified c))) → out′ ≡ putItem k 0 (Some (write (Certified c))) out → height ≡ heightOf s (c .block) → s′ ≡ shelve c s → bs′ ≡ bs ++ (c .block ∷ []) →
-    Does k (Ok (completed s bs (certificateOf b (s .round .votes)) New)) s bs out (Ok (record { word = SaysCertified; height = height; certificate = Some item; message = None; blame = None })) s′ bs′ out′
+      Some item ≡ itemAt k 0 (Some (write (Certified c))) → out′ ≡ putItem k 0 (Some (write (Certified c))) out → height ≡ heightOf s (c .block) → s′ ≡ shelve c s → bs′ ≡ bs ++ (c .block ∷ []) →
+      Does k (Ok (completed s bs (certificateOf b (s .round .votes)) New)) s bs out (Ok (record { word = SaysCertified; height = height; certificate = Some item; message = None; blame = None })) s′ bs′ out′
   certifies c item height s′ bs′ out′ e ei eo eh es eb =
       does-at k (Ok (completed s bs c New)) (Ok (completed s bs (certificateOf b (s .round .votes)) New)) (ap (λ x. Ok (completed s bs x New)) e)
-        (record {
-          answer =
+      (record {
+        answer =
             ap (λ (h : ℕ). Ok (record { word = SaysCertified; height = h; certificate = Some item; message = None; blame = None })) eh
             ∙ ap (λ (m : Option Item). Ok (record { word = SaysCertified; height = heightOf s (c .block); certificate = m; message = None; blame = None })) ei;
-          state = es; blocks = eb; outbox = eo })
+        state = es;
+        blocks = eb;
+        outbox = eo;
+      })
 
 none-of : {X : Type 0} (o : Option X) → isSome o ≡ false → o ≡ None
 none-of None h = refl
@@ -148,21 +148,14 @@ not-there : (a b c : Bool) → true ≡ (a && (b && not c)) → c ≡ false
 not-there a b c h = grind (arith, tells)
 
 module _ {L S : ℕ} {R : Type 0} (k : Kind L R) (p : Terms) (s : State S R) (bs : List (Block R)) (cells i : ℕ) (b : Block R) (seal : List ℕ) where
-  pub vote-idle : false ≡ countable k s i b → Ok (idle s bs) ≡ vote k p s bs cells i b seal
-  vote-idle h = second (voteCounts k p (withVotes (addSeal (s .round .votes) i seal) s) bs cells b) (Ok (idle s bs)) (countable k s i b) h
-
   module _ (t : State S R) (h : true ≡ countable k s i b) (e : t ≡ withVotes (addSeal (s .round .votes) i seal) s) where
     vote-counts : voteCounts k p t bs cells b ≡ vote k p s bs cells i b seal
     vote-counts =
         ap (λ u. voteCounts k p u bs cells b) e
         ∙ first (voteCounts k p (withVotes (addSeal (s .round .votes) i seal) s) bs cells b) (Ok (idle s bs)) (countable k s i b) h
 
-    pub vote-counted : false ≡ quorate p (t .round .votes) → Ok (counted t bs) ≡ vote k p s bs cells i b seal
-    vote-counted q =
-        second (carried (completed t bs (certificateOf b (t .round .votes))) (judgeIn k t bs cells b)) (Ok (counted t bs)) (quorate p (t .round .votes)) q ∙ vote-counts
-
     pub vote-judged : true ≡ quorate p (t .round .votes) → (v : Result Verdict Refusal) → v ≡ judgeIn k t bs cells b →
-      carried (completed t bs (certificateOf b (t .round .votes))) v ≡ vote k p s bs cells i b seal
+        carried (completed t bs (certificateOf b (t .round .votes))) v ≡ vote k p s bs cells i b seal
     vote-judged q v j =
         ap (λ x. carried (completed t bs (certificateOf b (t .round .votes))) x) j
         ∙ (first (carried (completed t bs (certificateOf b (t .round .votes))) (judgeIn k t bs cells b)) (Ok (counted t bs)) (quorate p (t .round .votes)) q ∙ vote-counts)
@@ -172,4 +165,4 @@ module _ {L S : ℕ} {R : Type 0} (k : Kind L R) (p : Terms) (s : State S R) (bs
     vote-dropped u d =
         d ∙ (ap (λ x. withVotes (dropSeal (x .round .votes) i) x) e
         ∙ ap (λ xs. withVotes (record { «by_seat» = xs }) s)
-            (dropped (s .round .votes .«by_seat») i seal (not-there (isOn (s .phase)) (isNote k (s .round .note) b) (hasSeal (s .round .votes) i) h)))
+        (dropped (s .round .votes .«by_seat») i seal (not-there (isOn (s .phase)) (isNote k (s .round .note) b) (hasSeal (s .round .votes) i) h)))

@@ -1,8 +1,8 @@
 // Votes and blames, kept by seat until a quorum of them stands.
 ghost use mathlib.Core.Path.{_≡_};
-ghost use mathlib.Core.Bool.{not, true, _&&_};
+ghost use mathlib.Core.Bool.{true};
 ghost use Prim.Native.Nat.{_+_, _<_, _≤_};
-ghost use lib.Dec.{eqb, ltb};
+ghost use lib.Dec.{ltb};
 ghost use lib.ListN.{length};
 ghost use Rattle.std.specs.declared.option.Option.the-variants.{Some};
 ghost use Rattle.std.specs.declared.result.Result.the-variants.{Ok};
@@ -10,8 +10,8 @@ ghost use Rattle.shelf.specs.Blocks.{held, size};
 ghost use Rattle.wire.specs.Masks.{countKept};
 ghost use Rattle.wire.specs.declared.message.Parts.the-variants.{Certified};
 ghost use Rattle.seat.specs.Does.{Does};
-ghost use Rattle.seat.specs.HandIn.{addSeal, blame, certificateOf, completed, countable, dropSeal, hasSeal, isNote, noticeOf, quorate, vote};
-ghost use Rattle.seat.specs.Parts.{isOn, withBlames, withVotes};
+ghost use Rattle.seat.specs.HandIn.{addSeal, blame, certificateOf, completed, countable, countsBlame, dropSeal, isNote, noticeOf, quorate, vote};
+ghost use Rattle.seat.specs.Parts.{withBlames, withVotes};
 ghost use Rattle.seat.specs.Sends.{itemAt, putItem, write};
 ghost use Rattle.seat.specs.declared.taking.Verdict.the-variants.{New};
 use crate::answer::Answer;
@@ -59,10 +59,10 @@ fn drop_seal<const S: usize>(row: &mut SealRow<S>, seat: u8)
 }
 
 impl<const S: usize, R: Copy> State<S, R> {
-    // Whether a blame counts: of the view that the seat is on in, once a seat.
+    // Whether a blame counts: for the view of a seat that is on, once a seat.
     fn counts_blame(&self, seat: u8, view: u16) -> bool
         requires { ⌜ S ≤ 64 ⌝ }
-        ensures { λ r. ⌜ r ≡ isOn (now (self .entry) .phase) && (eqb (now (self .entry) .view) view && not (hasSeal (now (self .entry) .blames) seat)) ⌝ }
+        ensures { λ r. ⌜ r ≡ countsBlame (now (self .entry)) seat view ⌝ }
     {
         self.is_on() & ((self.view == view) & !self.blames.has(seat))
     }
