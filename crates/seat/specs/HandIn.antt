@@ -45,6 +45,10 @@ hasSeal row i = isSome (getD (row .«by_seat») i None)
 abbrev pub addSeal : {S : ℕ} → SealRow S → ℕ → List ℕ → SealRow S
 addSeal row i seal = record { «by_seat» = set (row .«by_seat») i (Some seal) }
 
+-- a seal is taken back
+abbrev pub dropSeal : {S : ℕ} → SealRow S → ℕ → SealRow S
+dropSeal row i = record { «by_seat» = set (row .«by_seat») i None }
+
 -- the kept seals in a row
 abbrev pub rowOf : {S : ℕ} → SealRow S → List ℕ
 rowOf {S} row = take (countKept (row .«by_seat») * S) (padded 512 (rowKept (row .«by_seat»)))
@@ -147,6 +151,10 @@ module _ {S : ℕ} {R : Type 0} where
       (Ok (leaves s bs view relay))
       (Ok (idle s bs)))
 
+  -- a blame counts for the view of a seat that is on, once a seat
+  abbrev pub countsBlame : State S R → ℕ → ℕ → Bool
+  countsBlame s i view = isOn (s .phase) && (eqb (s .view) view && not (hasSeal (s .blames) i))
+
 module _ {S : ℕ} {R : Type 0} (p : Terms) where
   -- a seat's own blame of its view
   abbrev pub ownBlame : State S R → Sending R
@@ -168,7 +176,7 @@ module _ {S : ℕ} {R : Type 0} (p : Terms) where
   abbrev pub blame : State S R → List (Block R) → ℕ → ℕ → List ℕ → Result (Outcome S R) Refusal
   blame s bs i view seal =
       cond (eqb view lastView) (Err LastView)
-      (cond (isOn (s .phase) && (eqb (s .view) view && not (hasSeal (s .blames) i)))
+      (cond (countsBlame s i view)
       (Ok (blameCounts (withBlames (addSeal (s .blames) i seal) s) bs view))
       (Ok (idle s bs)))
 

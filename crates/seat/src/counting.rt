@@ -1,27 +1,37 @@
 // Votes and blames, kept by seat until a quorum of them stands.
 ghost use mathlib.Core.Path.{_≡_};
-ghost use mathlib.Core.Bool.{not, _&&_};
-ghost use Prim.Native.Nat.{_<_, _≤_};
-ghost use lib.Dec.{eqb};
+ghost use mathlib.Core.Bool.{true};
+ghost use Prim.Native.Nat.{_+_, _<_, _≤_};
+ghost use lib.Dec.{ltb};
 ghost use lib.ListN.{length};
 ghost use Rattle.std.specs.declared.option.Option.the-variants.{Some};
-ghost use Rattle.shelf.specs.Blocks.{held};
+ghost use Rattle.std.specs.declared.result.Result.the-variants.{Ok};
+ghost use Rattle.shelf.specs.Blocks.{held, size};
 ghost use Rattle.wire.specs.Masks.{countKept};
+ghost use Rattle.wire.specs.declared.message.Parts.the-variants.{Certified};
 ghost use Rattle.seat.specs.Does.{Does};
-ghost use Rattle.seat.specs.HandIn.{addSeal, blame, hasSeal, noticeOf, quorate};
-ghost use Rattle.seat.specs.Parts.{isOn, withBlames};
+ghost use Rattle.seat.specs.HandIn.{addSeal, blame, certificateOf, completed, countable, countsBlame, dropSeal, isNote, noticeOf, quorate, vote};
+ghost use Rattle.seat.specs.Parts.{withBlames, withVotes};
 ghost use Rattle.seat.specs.Sends.{itemAt, putItem, write};
+ghost use Rattle.seat.specs.declared.taking.Verdict.the-variants.{New};
 use crate::answer::Answer;
 use crate::answer::Item;
 use crate::answer::Word;
 use crate::handling::LAST_VIEW;
 use crate::sending::put;
+use crate::state::Note;
 use crate::state::State;
 use crate::state::Terms;
+use crate::taking::Verdict;
+use crate::taking::judge_in;
+use crate::taking::take;
 use content::kind::Content;
 use content::refusal::Refusal;
 use shelf::Shelf;
+use wire::block::Block;
+use wire::message::Certificate;
 use wire::message::Parts;
+use wire::ranks::same_block;
 use wire::rows::SealRow;
 
 // Whether a quorum of seals is there.
@@ -41,11 +51,18 @@ fn add_seal<const S: usize>(row: &mut SealRow<S>, seat: u8, seal: &[u8])
     row.keep(seat, seal);
 }
 
+fn drop_seal<const S: usize>(row: &mut SealRow<S>, seat: u8)
+    requires { ⌜ seat < 15 ⌝ }
+    ensures { λ _. ⌜ now (row .exit) ≡ dropSeal (now (row .entry)) seat ⌝ }
+{
+    row.by_seat[seat as usize] = None;
+}
+
 impl<const S: usize, R: Copy> State<S, R> {
-    // Whether a blame counts: of the view that the seat is on in, once a seat.
+    // Whether a blame counts: for the view of a seat that is on, once a seat.
     fn counts_blame(&self, seat: u8, view: u16) -> bool
         requires { ⌜ S ≤ 64 ⌝ }
-        ensures { λ r. ⌜ r ≡ isOn (now (self .entry) .phase) && (eqb (now (self .entry) .view) view && not (hasSeal (now (self .entry) .blames) seat)) ⌝ }
+        ensures { λ r. ⌜ r ≡ countsBlame (now (self .entry)) seat view ⌝ }
     {
         self.is_on() & ((self.view == view) & !self.blames.has(seat))
     }
@@ -119,4 +136,136 @@ pub fn blame<const L: usize, const S: usize, C: Content<L>>(
         message: Some(message),
         blame: None,
     })
+}
+
+fn is_note<const L: usize, C: Content<L>>(
+    note: &Option<Note<C::Record>>,
+    block: &Block<C::Record>,
+) -> bool
+    ensures { λ r. ⌜ r ≡ isNote (C·Content .kind) (now (note .entry)) (now (block .entry)) ⌝ }
+{
+    match note {
+        None => false,
+        Some(note) => same_block::<L, C>(&note.block, block),
+    }
+}
+
+// Whether a vote counts: for the note of a seat that is on, once a seat.
+fn countable<const L: usize, const S: usize, C: Content<L>>(
+    state: &State<S, C::Record>,
+    seat: u8,
+    block: &Block<C::Record>,
+) -> bool
+    requires { ⌜ S ≤ 64 ⌝ }
+    ensures { λ r. ⌜ r ≡ countable (C·Content .kind) (now (state .entry)) seat (now (block .entry)) ⌝ }
+{
+    state.is_on() & (is_note::<L, C>(&state.round.note, block) & !state.round.votes.has(seat))
+}
+
+impl<const S: usize, R: Copy> State<S, R> {
+    fn add_vote(&mut self, seat: u8, seal: &[u8])
+        requires seat { ⌜ seat < 15 ⌝ }
+        requires seal { ⌜ length (now seal) ≡ S ⌝ }
+        requires size { ⌜ S ≤ 64 ⌝ }
+        ensures { λ _. ⌜ now (self .exit) ≡ withVotes (addSeal (now (self .entry) .round .votes) seat (now (seal .entry))) (now (self .entry)) ⌝ }
+    {
+        add_seal(&mut self.round.votes, seat, seal);
+    }
+
+    fn drop_vote(&mut self, seat: u8)
+        requires seat { ⌜ seat < 15 ⌝ }
+        requires size { ⌜ S ≤ 64 ⌝ }
+        ensures { λ _. ⌜ now (self .exit) ≡ withVotes (dropSeal (now (self .entry) .round .votes) seat) (now (self .entry)) ⌝ }
+    {
+        drop_seal(&mut self.round.votes, seat);
+    }
+}
+
+fn put_certificate<const L: usize, C: Content<L>>(
+    block: &Block<C::Record>,
+    mask: u16,
+    seals: &[u8],
+    outbox: &mut [u8],
+) -> Item
+    requires { ⌜ 15 + L + length (now seals) ≤ length (now outbox) ⌝ }
+    ensures item { λ r. ⌜ Some r ≡ itemAt (C·Content .kind) 0 (Some (write (Certified (record { block = now (block .entry); mask = mask; seals = now (seals .entry) })))) ⌝ }
+    ensures bytes { λ _. ⌜ now (outbox .exit) ≡ putItem (C·Content .kind) 0 (Some (write (Certified (record { block = now (block .entry); mask = mask; seals = now (seals .entry) })))) (now (outbox .entry)) ⌝ }
+{
+    put::<L, C>(
+        &Parts::Certified(Certificate {
+            block: *block,
+            mask,
+            seals,
+        }),
+        outbox,
+        0,
+    )
+}
+
+// The certificate of a block from its votes: written, and taken in.
+fn certify<const L: usize, const S: usize, C: Content<L>>(
+    state: &mut State<S, C::Record>,
+    shelf: &mut Shelf<'_, C::Record>,
+    block: &Block<C::Record>,
+    outbox: &mut [u8],
+) -> Answer
+    requires cell { ⌜ ltb (length (held (now shelf))) (size (now shelf)) ≡ true ⌝ }
+    requires count { ⌜ countKept (now state .round .votes .«by_seat») ≤ 8 ⌝ }
+    requires seal { ⌜ S ≤ 64 ⌝ }
+    requires room { ⌜ 1024 ≤ length (now outbox) ⌝ }
+    ensures does { λ r. ⌜ Does (C·Content .kind) (Ok (completed (now (state .entry)) (held (now (shelf .entry))) (certificateOf (now (block .entry)) (now (state .entry) .round .votes)) New)) (now (state .entry)) (held (now (shelf .entry))) (now (outbox .entry)) (Ok r) (now (state .exit)) (held (now (shelf .exit))) (now (outbox .exit)) ⌝ }
+    ensures size { λ _. ⌜ size (now (shelf .exit)) ≡ size (now (shelf .entry)) ⌝ }
+{
+    let row = state.round.votes.row();
+    let mask = state.round.votes.mask();
+    let seals = &row[0..state.round.votes.count() as usize * S];
+    let certificate = put_certificate::<L, C>(block, mask, seals, outbox);
+    let c = Certificate {
+        block: *block,
+        mask,
+        seals,
+    };
+    Answer {
+        word: Word::Certified,
+        height: take(state, shelf, &c),
+        certificate: Some(certificate),
+        message: None,
+        blame: None,
+    }
+}
+
+// A vote for the note; the one that completes a quorum makes a certificate. A vote whose certificate is refused is not kept.
+pub fn vote<const L: usize, const S: usize, C: Content<L>>(
+    terms: &Terms,
+    state: &mut State<S, C::Record>,
+    shelf: &mut Shelf<'_, C::Record>,
+    seat: u8,
+    block: &Block<C::Record>,
+    seal: &[u8],
+    outbox: &mut [u8],
+) -> Result<Answer, Refusal>
+    requires seat { ⌜ seat < 15 ⌝ }
+    requires seal { ⌜ length (now seal) ≡ S ⌝ }
+    requires size { ⌜ S ≤ 64 ⌝ }
+    requires room { ⌜ 1024 ≤ length (now outbox) ⌝ }
+    ensures does { λ r. ⌜ Does (C·Content .kind) (vote (C·Content .kind) (now (terms .entry)) (now (state .entry)) (held (now (shelf .entry))) (size (now (shelf .entry))) seat (now (block .entry)) (now (seal .entry))) (now (state .entry)) (held (now (shelf .entry))) (now (outbox .entry)) r (now (state .exit)) (held (now (shelf .exit))) (now (outbox .exit)) ⌝ }
+    ensures size { λ _. ⌜ size (now (shelf .exit)) ≡ size (now (shelf .entry)) ⌝ }
+{
+    if !countable::<L, S, C>(state, seat, block) {
+        return Ok(Answer::of(Word::Idle));
+    }
+    state.add_vote(seat, seal);
+    if !quorate(terms, &state.round.votes) {
+        return Ok(Answer::of(Word::Counted));
+    }
+    match judge_in::<L, S, C>(state, shelf, block) {
+        Err(refusal) => {
+            state.drop_vote(seat);
+            Err(refusal)
+        }
+        Ok(verdict) => match verdict {
+            Verdict::Known => Ok(Answer::of(Word::Counted)),
+            Verdict::New => Ok(certify::<L, S, C>(state, shelf, block, outbox)),
+        },
+    }
 }
