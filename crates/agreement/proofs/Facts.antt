@@ -27,7 +27,7 @@ use Rattle.seat.specs.declared.state.Note.{Note}
 use Rattle.seat.specs.declared.state.Phase.the-variants.{On, Leaving}
 use Rattle.seat.specs.declared.state.State.{State}
 use Rattle.agreement.specs.Committed.{Commits, Takes}
-use Rattle.agreement.specs.History.{Desk, Did, Event, History, Refused, Sends, clock, desk, inboxOf}
+use Rattle.agreement.specs.History.{Call, Desk, Did, Event, History, Refused, Sends, clock, desk, hand, inboxOf, offer, sent, tick}
 use Rattle.agreement.specs.Run.{Among, Run}
 use Rattle.agreement.specs.Setting.{Setting, Sound}
 
@@ -38,6 +38,13 @@ Earlier p h = (q : History) × (h ≡ q ++ p)
 -- one of the calls of h, with the history before it
 abbrev pub Was : (Event → History → Type 0) → History → Type 0
 Was P h = (q : History) × (e : Event) × (p : History) × (h ≡ q ++ (e ∷ p)) × P e p
+
+-- the call is a tick
+abbrev pub Ticks : Call → Type 0
+Ticks (hand inbox room) = ⊥
+Ticks (tick room) = Unit {0}
+Ticks (offer content room) = ⊥
+Ticks sent = ⊥
 
 -- stages in their order: on in a view, then leaving it
 abbrev pub stage : {S : ℕ} {R : Type 0} → State S R → ℕ
@@ -124,7 +131,6 @@ module _ {L : ℕ} {R : Type 0} (S : ℕ) (k : Kind L R) (w : Setting) where
     pub mine : e .who ≡ i
     pub at-tick : clock S k w i (e ∷ p) ≡ a
     pub on-after : OnIn i (b .rank .view) (e ∷ p)
-    pub turn-after : state i (e ∷ p) .turn ≡ b .rank .turn
     pub relays : SendsSome (AsProposal b) e p
     pub parent-there : ParentOn b (shelf i (e ∷ p))
 
@@ -147,6 +153,9 @@ module _ {L : ℕ} {R : Type 0} (S : ℕ) (k : Kind L R) (w : Setting) where
     -- time
     pub stage-rises : (i : ℕ) (p h : History) → Sound w i → Run S k w h → Earlier p h → stage (state i p) ≤ stage (state i h)
     pub clock-rises : (i : ℕ) (p h : History) → Earlier p h → clock S k w i p ≤ clock S k w i h
+    -- only a tick moves a clock, its own seat's, and by one
+    pub clock-moves : (i : ℕ) (e : Event) (p : History) → (clock S k w i (e ∷ p) ≡ clock S k w i p) ⊎
+        ((e .who ≡ i) × Ticks (e .what) × (clock S k w i (e ∷ p) ≡ clock S k w i p + 1))
     pub leaving-short : (i since : ℕ) (h : History) → Sound w i → Run S k w h → state i h .phase ≡ Leaving since →
         (since ≤ clock S k w i h) × (clock S k w i h ≤ since + 2 * w .delta)
     pub leaving-began : (i since : ℕ) (p h : History) → Sound w i → Run S k w h → Earlier p h →
@@ -181,8 +190,6 @@ module _ {L : ℕ} {R : Type 0} (S : ℕ) (k : Kind L R) (w : Setting) where
     -- commits
     pub commit-on : (e : Event) (p : History) (b : Block R) → Run S k w (e ∷ p) → Did S k w (λ o. 0 < o .height) e p → Takes S k w b e p → OnIn (e .who) (b .rank .view) p
     pub committed-was : (i : ℕ) (h : History) (b : Block R) → Sound w i → Run S k w h → state i h .committed ≡ Some b → Commits S k w i b h
-    pub commits-rise : (e : Event) (p : History) (b c : Block R) → Run S k w (e ∷ p) → Did S k w (λ o. 0 < o .height) e p → Takes S k w b e p →
-        state (e .who) p .committed ≡ Some c → OnShelf c (shelf (e .who) p) × (below (c .rank) (b .rank) ≡ true)
     -- refusals
     pub orphan-because : (e : Event) (p : History) → Run S k w (e ∷ p) → Refused S k w Orphan e p →
         (b : Block R) × Candidate b e p × (ParentOn b (shelf (e .who) p) → ⊥)

@@ -3,3 +3,4 @@ pub mod History
 pub mod Run
 pub mod Setting
 pub mod Theorem
+pub mod Witness

@@ -14,7 +14,7 @@ add a b = (a + b) % 2 ^ 64
 abbrev pub turn : ℕ → ℕ → ℕ
 turn k a = bitOr (a * 2 ^ k % 2 ^ 64) (a / 2 ^ (64 - k))
 
--- one round
+-- one round of additions, turns and exclusive ors, and so many rounds
 abbrev pub sipRound : State → State
 sipRound s =
     let a0 = add (s .v0) (s .v1) in
@@ -29,7 +29,7 @@ unfoldable pub sipRounds : ℕ → State → State
 sipRounds zero s = s
 sipRounds (suc k) s = sipRound (sipRounds k s)
 
--- how the key begins
+-- the state that a key begins with
 abbrev pub start : List ℕ → State
 start key =
     let k0 = number (take 8 key) in
@@ -41,7 +41,7 @@ start key =
       v3 = bitXor k1 0x7465646279746573;
     }
 
--- a word goes in between two changes of the state, by two rounds
+-- A word goes in: it is mixed into v3, two rounds follow, and it is mixed into v0. Words go in one by one.
 abbrev pub compress : State → ℕ → State
 compress s word =
     let t = sipRounds 2 (record { v0 = s .v0; v1 = s .v1; v2 = s .v2; v3 = bitXor (s .v3) word }) in
@@ -51,7 +51,7 @@ abbrev pub absorb : State → List ℕ → State
 absorb s [] = s
 absorb s (word ∷ words) = absorb (compress s word) words
 
--- the answer comes out by four rounds
+-- the answer comes out: v2 is marked, four rounds follow, and the four words are mixed
 abbrev pub finish : State → ℕ
 finish s =
     let t = sipRounds 4 (record { v0 = s .v0; v1 = s .v1; v2 = bitXor (s .v2) 0xff; v3 = s .v3 }) in
@@ -67,6 +67,7 @@ wordsOf (suc k) len rest = number (take 8 rest) ∷ wordsOf k len (drop 8 rest)
 abbrev pub absorbRest : State → ℕ → List ℕ → State
 absorbRest s len rest = absorb s (wordsOf (length rest / 8) len rest)
 
+-- the hash of a message under a key
 abbrev pub sipHash : List ℕ → List ℕ → ℕ
 sipHash key message = finish (absorbRest (start key) (length message) message)
 

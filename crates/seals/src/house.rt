@@ -49,6 +49,7 @@ pub fn one_good_seal() -> u8
     0
 }
 
+// The seal under the seat's key in the row, if it has one.
 fn seal_of(keys: &[u8], seat: u8, tag: u8, body: &[u8]) -> Option<[u8; HouseSeals::SEAL_LENGTH]>
     ensures { λ r. ⌜ r ≡ houseSeal (now (keys .entry)) seat (tag ∷ now (body .entry)) ⌝ }
 {

@@ -16,6 +16,7 @@ pub struct RollLine<'s> {
     seal: [u8; Roll::SEAL_LENGTH],
 }
 
+// The lines, lent by whoever keeps them.
 #[derive(Clone, Copy)]
 pub struct Roll<'a, 's> {
     lines: &'a [RollLine<'s>],
@@ -34,6 +35,7 @@ impl<'a, 's> Roll<'a, 's> {
 }
 
 impl<'s> RollLine<'s> {
+    // The line of this seat, statement and seal.
     pub fn new(seat: u8, statement: &'s [u8], seal: [u8; Roll::SEAL_LENGTH]) -> RollLine<'s>
         ensures whose { λ r. ⌜ r .seat ≡ seat ⌝ }
         ensures what { λ r. ⌜ now (r .statement) ≡ now (statement .entry) ⌝ }
@@ -46,6 +48,7 @@ impl<'s> RollLine<'s> {
         }
     }
 
+    // Whether this is the line of that seat, statement and seal.
     fn is(&self, seat: u8, tag: u8, body: &[u8], seal: &[u8]) -> bool
         ensures { λ r. ⌜ r ≡ isLine (now (self .entry)) seat (tag ∷ now (body .entry)) (now (seal .entry)) ⌝ }
     {
@@ -61,6 +64,7 @@ pub fn only_its_lines() -> u8
     0
 }
 
+// Whether one of the lines is.
 fn any_is(lines: &[RollLine], seat: u8, tag: u8, body: &[u8], seal: &[u8]) -> bool
     ensures { λ r. ⌜ r ≡ listed (now (lines .entry)) seat (tag ∷ now (body .entry)) (now (seal .entry)) ⌝ }
 {

@@ -19,6 +19,7 @@ struct State {
 }
 
 impl State {
+    // The state that a key of 16 bytes begins with.
     fn new(key: &[u8]) -> State
         requires { ⌜ length (now key) ≡ 16 ⌝ }
         ensures { λ r. ⌜ r ≡ start (now (key .entry)) ⌝ }
@@ -60,6 +61,7 @@ impl State {
         state
     }
 
+    // Takes in a word.
     fn compress(self, word: u64) -> State
         ensures { λ r. ⌜ r ≡ compress self word ⌝ }
     {
@@ -72,6 +74,7 @@ impl State {
         state
     }
 
+    // The answer, once every word is in.
     fn finish(self) -> u64
         ensures { λ r. ⌜ r ≡ finish self ⌝ }
     {

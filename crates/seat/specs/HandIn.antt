@@ -132,10 +132,13 @@ module _ {S : ℕ} {R : Type 0} where
   noticeOf view blames = Notice view (maskKept (blames .«by_seat»)) (rowKept (blames .«by_seat»))
 
   -- a notice ends the seat's own view while it is on, or leads it out of a higher one
+  abbrev pub leavesBy : State S R → ℕ → Bool
+  leavesBy s view = ltb (s .view) view || (isOn (s .phase) && eqb (s .view) view)
+
   abbrev pub notice : State S R → List (Block R) → ℕ → Result (Outcome S R) Refusal
   notice s bs view =
       cond (eqb view lastView) (Err LastView)
-      (cond (ltb (s .view) view || (isOn (s .phase) && eqb (s .view) view))
+      (cond (leavesBy s view)
       (Ok (leaves s bs view relay))
       (Ok (idle s bs)))
 

@@ -3,7 +3,7 @@ use Prim.Native.Nat.{ℕ, _+_, _-_, _*_, min}
 use mathlib.Core.Bool.{Bool, true, false, cond, not, _&&_, _||_}
 use mathlib.Core.List.{List, [], _∷_, _++_}
 use lib.Dec.{eqb, ltb}
-use lib.ListN.{length, replicate, take}
+use lib.ListN.{length}
 use Rattle.std.specs.declared.option.Option.{Option}
 use Rattle.std.specs.declared.option.Option.the-variants.{Some, None}
 use Rattle.std.specs.declared.result.Result.{Result}
@@ -11,9 +11,11 @@ use Rattle.std.specs.declared.result.Result.the-variants.{Ok, Err}
 use Rattle.content.specs.Kinds.{Kind}
 use Rattle.content.specs.declared.refusal.Refusal.{Refusal}
 use Rattle.content.specs.declared.refusal.Refusal.the-variants.{Orphan, Rival, Full, Fork}
+use Rattle.wire.specs.Keeping.{padded}
 use Rattle.wire.specs.Ranks.{below, parentOf}
 use Rattle.wire.specs.Layout.{sameBlock}
 use Rattle.wire.specs.declared.block.Block.{Block}
+use Rattle.wire.specs.declared.block.Rank.{Rank}
 use Rattle.wire.specs.declared.message.Certificate.{Certificate}
 use Rattle.shelf.specs.Blocks.{find, readBelow}
 use Rattle.seat.specs.Parts.{isOn, turnRises, withBest, withCommitted}
@@ -76,8 +78,13 @@ module _ {R : Type 0} where
   keepBest c = record {
     block = c .block;
     mask = c .mask;
-    seals = take 512 (c .seals) ++ replicate (512 - length (c .seals)) 0;
+    seals = padded 512 (c .seals);
   }
+
+  -- whether a rank is above best
+  abbrev pub higherThan : Option (Best R) → Rank → Bool
+  higherThan None r = true
+  higherThan (Some best) r = below (best .block .rank) r
 
   -- best becomes the higher rank
   abbrev pub better : Option (Best R) → Certificate R (List ℕ) → Option (Best R)

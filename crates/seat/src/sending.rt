@@ -7,7 +7,7 @@ ghost use Rattle.wire.specs.Layout.{messageBytes};
 ghost use Rattle.wire.specs.Meaning.{plain};
 ghost use Rattle.wire.specs.Writing.{messageSize, placed};
 ghost use Rattle.wire.specs.declared.message.Parts.the-variants.{Blame, Vote};
-ghost use Rattle.seat.specs.Sends.{itemAt, putItem, write};
+ghost use Rattle.seat.specs.Sends.{endOf, itemAt, putItem, write};
 ghost use Rattle.seat.specs.declared.answer.Item.the-variants.{Outbox};
 use crate::answer::Item;
 use crate::state::Terms;
@@ -29,6 +29,16 @@ pub fn put<const L: usize, C: Content<L>>(
     match write_parts::<L, C>(parts, outbox, from) {
         Ok(to) => Item::Outbox { from, to },
         Err(_) => unreachable(),
+    }
+}
+
+// Where the next message begins.
+pub fn end_of(item: &Option<Item>) -> usize
+    ensures { λ r. ⌜ r ≡ endOf (now (item .entry)) ⌝ }
+{
+    match item {
+        Some(Item::Outbox { to, .. }) => *to,
+        _ => 0,
     }
 }
 

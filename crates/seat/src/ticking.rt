@@ -10,12 +10,13 @@ ghost use Rattle.std.specs.declared.option.Option.the-variants.{None, Some};
 ghost use Rattle.shelf.specs.Blocks.{held};
 ghost use Rattle.seat.specs.HandIn.{ownBlame};
 ghost use Rattle.seat.specs.Parts.{withBlamed};
-ghost use Rattle.seat.specs.Sends.{answerOf, endOf, itemAt, outboxAfter, putItem};
+ghost use Rattle.seat.specs.Sends.{answerOf, itemAt, outboxAfter, putItem};
 ghost use Rattle.seat.specs.Tick.{afterBlame, afterVote, blameDue, blameOf, enter, enteredAt, leavingTick, onTick, placeOf, ripe, tickStep, turnAfter, voteDue, voteOf};
 ghost use Rattle.seat.specs.declared.answer.Word.the-variants.{Blamed, Idle, Voted};
 use crate::answer::Answer;
 use crate::answer::Item;
 use crate::answer::Word;
+use crate::sending::end_of;
 use crate::sending::put_blame;
 use crate::sending::put_vote;
 use crate::state::Best;
@@ -212,16 +213,6 @@ fn vote_if_due<const L: usize, const S: usize, C: Content<L>>(
     match state.round.note {
         None => None,
         Some(note) => vote_for::<L, S, C>(terms, state, note, outbox),
-    }
-}
-
-// Where the next message begins.
-fn end_of(item: &Option<Item>) -> usize
-    ensures { λ r. ⌜ r ≡ endOf (now (item .entry)) ⌝ }
-{
-    match item {
-        Some(Item::Outbox { to, .. }) => *to,
-        _ => 0,
     }
 }
 

@@ -1,29 +1,27 @@
 -- Blocks, masks and rows of seals: reading and writing are each other's.
-use Prim.Native.Nat.{ℕ, zero, suc, _+_, _-_, _*_, _%_, _^_, _<_, _≤_}
-use mathlib.Core.Path.{_≡_, refl, sym, ap, subst, _∙_}
-use mathlib.Core.Bool.{Bool, true, false, cond}
+use Prim.Native.Nat.{ℕ, zero, suc, _+_, _-_, _*_, _%_, _<_, _≤_}
+use mathlib.Core.Path.{_≡_, refl, sym, ap, _∙_}
+use mathlib.Core.Bool.{true}
 use mathlib.Core.List.{List, [], _∷_, _++_, append-assoc}
 use native.Mathlib.Omega.{arith}
 use native.Mathlib.Nat.{zero-mul, add-zero}
-use lib.Dec.{eqb, ltb}
-use lib.ListN.{length, take, drop, getD, take-append-drop, length-append, length-drop}
-use lib.Seq.{length-take-le, getD-drop, take-at, drop-at, drop-drop}
+use lib.Dec.{ltb}
+use lib.ListN.{length, drop, take-append-drop, length-append, length-drop}
+use lib.Seq.{length-take-le, take-at, drop-at, drop-drop}
 use Rattle.std.specs.declared.option.Option.{Option}
 use Rattle.std.specs.declared.option.Option.the-variants.{Some, None}
-use Rattle.std.specs.declared.result.Result.{Result}
-use Rattle.std.specs.declared.result.Result.the-variants.{Ok, Err}
+use Rattle.std.specs.declared.result.Result.the-variants.{Ok}
 use Rattle.std.proofs.shelf.Tests.{ltb-false, le-ltb, lt-ltb, ltb-true, cond-true, cond-false}
 use Rattle.content.specs.Kinds.{Kind, Bytes, Lawful}
-use Rattle.content.specs.Numbers.{number, spell}
-use Rattle.content.specs.declared.refusal.Refusal.{Refusal}
+use Rattle.content.specs.Numbers.{spell}
 use Rattle.content.specs.declared.refusal.Refusal.the-variants.{BadLayout, Short}
-use Rattle.wire.specs.Lawful.{LawfulBlock, LawfulRow, LawfulBody, TwoBytes, FourBytes}
+use Rattle.wire.specs.Lawful.{LawfulBlock, LawfulBody, TwoBytes}
 use Rattle.wire.specs.Layout.{lawfulNumbers, blockBytes, bodyBytes}
 use Rattle.wire.specs.Masks.{lawfulMask, quorum}
-use Rattle.wire.specs.Reading.{next, Read, peel, peelNumber, peelSeat, peelMask, sealsFit, peelSeals, contentOf, peelContent, peelBlock, peelBody}
+use Rattle.wire.specs.Reading.{peel, peelNumber, peelSeat, peelMask, sealsFit, peelSeals, contentOf, peelContent, peelBlock, peelBody}
 use Rattle.wire.specs.declared.block.Block.{Block}
 use Rattle.wire.specs.declared.message.Certificate.{Certificate}
-use Rattle.wire.proofs.Steps.{Gives, gives-ok, gives-err, gives-next, gives-if, gives-unless, next-forth, Peeled, peel-back, peel-forth, Spelt, number-back, number-forth, bytes-take, bytes-drop}
+use Rattle.wire.proofs.Steps.{Gives, gives-ok, gives-err, gives-next, gives-if, gives-unless, next-forth, Peeled, peel-back, peel-forth, number-back, number-forth, bytes-take, bytes-drop}
 
 -- a seat
 pub record SeatFound (n : ℕ) (xs : List ℕ) (p : ℕ × List ℕ) : Type 0 where

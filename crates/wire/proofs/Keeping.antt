@@ -1,18 +1,18 @@
 -- Seals by seat, one seat on, and rows in memory of a fixed size, one byte on.
-use Prim.Native.Nat.{ℕ, zero, suc, _+_, _-_, _*_, _%_, _^_, _≤_, _<_, min}
-use mathlib.Core.Path.{_≡_, refl, sym, ap, subst, _∙_}
-use mathlib.Core.Bool.{Bool, true, false, cond}
+use Prim.Native.Nat.{ℕ, zero, suc, _+_, _-_, _*_, _%_, _^_, _≤_, _<_}
+use mathlib.Core.Path.{_≡_, refl, sym, ap, _∙_}
+use mathlib.Core.Bool.{Bool, true, false}
 use mathlib.Core.List.{List, [], _∷_, _++_, append-assoc, append-nil}
 use native.Mathlib.Omega.{arith}
 use native.Mathlib.Nat.{pow-suc, one-mul, zero-mul}
 use native.Mathlib.Numerals.{add-one}
-use lib.ListN.{length, getD, set, take, drop, replicate, length-append, length-take, length-replicate}
+use lib.ListN.{length, getD, set, take, replicate, length-append}
 use lib.Pow.{pow-lt}
 use lib.Seq.{length-take-le}
 use Rattle.std.specs.Options.{isSome}
 use Rattle.std.specs.declared.option.Option.{Option}
 use Rattle.std.specs.declared.option.Option.the-variants.{Some, None}
-use Rattle.std.proofs.shelf.Lists.{take-more, set-past}
+use Rattle.std.proofs.shelf.Lists.{take-more}
 use Rattle.wire.specs.Keeping.{padded, Poured}
 use Rattle.wire.specs.Masks.{Kept, countKept, maskKept, rowKept}
 

@@ -1,31 +1,29 @@
 -- One byte form: what reads as a message is what writing that message gives, and a lawful message, written and read,
 -- is the same again.
-use Prim.Native.Nat.{ℕ, zero, suc, _+_, _-_, _*_, _^_, _<_, _≤_}
-use mathlib.Core.Path.{_≡_, refl, sym, ap, subst, _∙_}
-use mathlib.Core.Bool.{Bool, true, false, cond}
-use mathlib.Core.List.{List, [], _∷_, _++_, append-assoc, append-nil}
-use native.Mathlib.Omega.{arith}
-use lib.Dec.{eqb, ltb}
+use Prim.Native.Nat.{ℕ, suc, _+_, _-_}
+use mathlib.Core.Path.{_≡_, refl, sym, ap, _∙_}
+use mathlib.Core.Bool.{cond}
+use mathlib.Core.List.{List, [], _∷_, _++_, append-nil}
+use lib.Dec.{eqb}
 use lib.ListN.{length}
-use Rattle.std.specs.declared.option.Option.{Option}
 use Rattle.std.specs.declared.option.Option.the-variants.{Some, None}
 use Rattle.std.specs.declared.result.Result.{Result}
-use Rattle.std.specs.declared.result.Result.the-variants.{Ok, Err}
+use Rattle.std.specs.declared.result.Result.the-variants.{Ok}
 use Rattle.std.proofs.shelf.Tests.{eqb-true, eqb-false, eq-eqb, ne-eqb, cond-true, cond-false}
 use Rattle.content.specs.Kinds.{Kind, Bytes}
 use Rattle.content.specs.Numbers.{spell}
 use Rattle.content.specs.declared.refusal.Refusal.{Refusal}
 use Rattle.content.specs.declared.refusal.Refusal.the-variants.{UnknownKind, WrongParent, Short}
-use Rattle.wire.specs.Lawful.{LawfulBlock, LawfulRow, LawfulBody, LawfulParts, TwoBytes}
+use Rattle.wire.specs.Lawful.{LawfulBlock, LawfulBody, LawfulParts}
 use Rattle.wire.specs.Layout.{blockBytes, bodyBytes, messageBytes}
 use Rattle.wire.specs.Masks.{quorum}
-use Rattle.wire.specs.Reading.{next, Read, peel, peelNumber, peelSeat, peelMask, peelSeals, peelBlock, peelBody, ended, isParent, proposalOf, readProposal, readVote, readBlame, readCertified, readNotice, readKind, readParts}
+use Rattle.wire.specs.Reading.{peel, peelNumber, peelSeat, peelMask, peelSeals, peelBlock, peelBody, ended, isParent, proposalOf, readProposal, readVote, readBlame, readCertified, readNotice, readKind, readParts}
 use Rattle.wire.specs.declared.block.Block.{Block}
 use Rattle.wire.specs.declared.message.Certificate.{Certificate}
 use Rattle.wire.specs.declared.message.Parts.{Parts}
 use Rattle.wire.specs.declared.message.Parts.the-variants.{Proposal, Vote, Blame, Certified, Notice}
-use Rattle.wire.proofs.Steps.{Gives, gives-ok, gives-err, gives-next, gives-if, gives-either, next-forth, Peeled, peel-back, peel-forth, Spelt, number-back, number-forth}
-use Rattle.wire.proofs.Bodies.{seat-back, seat-forth, mask-back, mask-forth, seals-back, seals-forth, BlockFound, block-back, block-forth, BodyFound, body-back, body-forth}
+use Rattle.wire.proofs.Steps.{Gives, gives-ok, gives-err, gives-next, gives-if, gives-either, next-forth, peel-back, peel-forth, number-back, number-forth}
+use Rattle.wire.proofs.Bodies.{seat-back, seat-forth, mask-back, mask-forth, seals-back, seals-forth, block-back, block-forth, body-back, body-forth}
 
 -- nothing was left
 gives-ended : {X : Type 0} (Q : X → Type 0) (total : ℕ) (p : X × List ℕ) → (p .1 ≡ [] → Q (p .0)) → Gives (ended total p) Q
@@ -177,3 +175,8 @@ module _ {L : ℕ} {R : Type 0} (k : Kind L R) (S n : ℕ) where
       next-forth _ (number-forth 2 1 view (spell 2 mask ++ seals) (h .0))
       (next-forth _ (mask-forth n 3 mask seals (h .1 .range) (h .1 .seats))
       (next-forth _ (at-end (λ xs. peelSeals S (quorum n) 5 xs) seals ∙ seals-forth S (quorum n) 5 seals [] (h .1 .row)) refl))
+
+  -- two different strings of bytes are never one message
+  pub one-form-apart : (xs ys : List ℕ) (m : Parts R (List ℕ)) → Bytes xs → Bytes ys → readParts k S n xs ≡ Ok m → readParts k S n ys ≡ Ok m
+      → xs ≡ ys
+  one-form-apart xs ys m h i e f = sym (one-form-back xs m h e) ∙ one-form-back ys m i f

@@ -1,14 +1,14 @@
 -- Bytes put one after another are bytes put at once.
-use Prim.Native.Nat.{ℕ, zero, suc, _+_, _-_, _≤_}
-use mathlib.Core.Path.{_≡_, refl, sym, ap, subst, _∙_}
-use mathlib.Core.List.{List, [], _∷_, _++_, append-assoc}
+use Prim.Native.Nat.{ℕ, _+_, _-_, _≤_}
+use mathlib.Core.Path.{_≡_, sym, ap, subst, _∙_}
+use mathlib.Core.List.{List, _++_, append-assoc}
 use native.Mathlib.Omega.{arith}
 use native.Mathlib.Nat.{add-assoc}
 use borrow.Rule.Slice.PartMut.{putMid}
 use lib.ListN.{length, take, drop, length-append, length-drop}
-use lib.Seq.{drop-drop, drop-append-add, length-take-le, take-at, drop-at}
+use lib.Seq.{drop-drop, drop-append-add, length-take-le, take-at}
 use Rattle.std.proofs.shelf.Tests.{cond-true, le-leb}
-use Rattle.std.specs.declared.result.Result.the-variants.{Ok, Err}
+use Rattle.std.specs.declared.result.Result.the-variants.{Ok}
 use Rattle.content.specs.Kinds.{Kind}
 use Rattle.wire.specs.Layout.{messageBytes}
 use Rattle.wire.specs.Writing.{placed, Put, messageSize, hasRoom, writeEnd, writeOut}

@@ -1,20 +1,20 @@
 -- One field after another: what was peeled off lies in front of the rest, and what lies in front is peeled off.
-use Prim.Native.Nat.{ℕ, zero, suc, _+_, _-_, _*_, _^_, _<_, _≤_}
-use mathlib.Core.Path.{_≡_, refl, sym, ap, subst, _∙_}
+use Prim.Native.Nat.{ℕ, zero, suc, _+_, _-_, _^_, _<_}
+use mathlib.Core.Path.{_≡_, refl, ap, subst, _∙_}
 use mathlib.Core.Bool.{Bool, true, false, cond}
-use mathlib.Core.List.{List, [], _∷_, _++_, append-assoc}
+use mathlib.Core.List.{List, [], _∷_, _++_}
 use native.Mathlib.Omega.{arith}
-use lib.Dec.{eqb, ltb}
-use lib.ListN.{length, take, drop, getD, take-append-drop, length-append}
+use lib.Dec.{ltb}
+use lib.ListN.{length, take, drop, take-append-drop, length-append}
 use lib.Seq.{length-take-le, getD-drop, take-at, drop-at}
 use Rattle.std.specs.declared.result.Result.{Result}
 use Rattle.std.specs.declared.result.Result.the-variants.{Ok, Err}
 use Rattle.std.proofs.shelf.Tests.{ltb-false, le-ltb}
-use Rattle.content.specs.Kinds.{Kind, Bytes, Lawful}
+use Rattle.content.specs.Kinds.{Bytes}
 use Rattle.content.specs.Numbers.{number, spell}
 use Rattle.content.specs.declared.refusal.Refusal.{Refusal}
 use Rattle.content.proofs.Numbers.{spell-number, number-spell, length-spell, number-below}
-use Rattle.wire.specs.Reading.{next, Read, peel, peelNumber}
+use Rattle.wire.specs.Reading.{next, peel, peelNumber}
 
 -- what holds of whatever a reading gives
 abbrev pub Gives : {X : Type 0} → Result X Refusal → (X → Type 0) → Type 0

@@ -1,5 +1,5 @@
 -- Messages that keep the layout, said of their parts.
-use Prim.Native.Nat.{ℕ, _+_, _*_, _^_, _<_}
+use Prim.Native.Nat.{ℕ, _*_, _^_, _<_}
 use mathlib.Core.Path.{_≡_}
 use mathlib.Core.Bool.{true}
 use mathlib.Core.List.{List}
@@ -11,7 +11,6 @@ use Rattle.wire.specs.Layout.{lawfulNumbers}
 use Rattle.wire.specs.Masks.{lawfulMask, quorum}
 use Rattle.wire.specs.Reading.{isParent}
 use Rattle.wire.specs.declared.block.Block.{Block}
-use Rattle.wire.specs.declared.block.Rank.{Rank}
 use Rattle.wire.specs.declared.message.Certificate.{Certificate}
 use Rattle.wire.specs.declared.message.Parts.{Parts}
 use Rattle.wire.specs.declared.message.Parts.the-variants.{Proposal, Vote, Blame, Certified, Notice}

@@ -1,6 +1,7 @@
 pub mod Asked
 pub mod Keeping
 pub mod Lawful
+pub mod Laws
 pub mod Layout
 pub mod Making
 pub mod Masks

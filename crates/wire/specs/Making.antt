@@ -1,7 +1,6 @@
 -- Judging a message by its parts before it is made: each field in the order in which it lies, with the refusals of
 -- reading at the same offsets. A seal, or a row of seals, of another length is refused like a mask.
 use Prim.Native.Nat.{ℕ, _+_, _*_}
-use mathlib.Core.Path.{_≡_}
 use mathlib.Core.Bool.{Bool, cond, not}
 use mathlib.Core.List.{List}
 use lib.Dec.{eqb, ltb}
@@ -14,15 +13,20 @@ use Rattle.std.specs.declared.result.Result.the-variants.{Ok, Err}
 use Rattle.content.specs.Kinds.{Kind, Lawful}
 use Rattle.content.specs.declared.refusal.Refusal.{Refusal}
 use Rattle.content.specs.declared.refusal.Refusal.the-variants.{BadLayout, NoContent, WrongParent}
-use Rattle.wire.specs.Lawful.{TwoBytes, FourBytes}
+use Rattle.wire.specs.Lawful.{TwoBytes}
 use Rattle.wire.specs.Layout.{lawfulNumbers}
 use Rattle.wire.specs.Masks.{lawfulMask, quorum}
 use Rattle.wire.specs.Reading.{next, isParent}
 use Rattle.wire.specs.declared.block.Block.{Block}
+use Rattle.wire.specs.declared.block.Rank.{Rank}
 use Rattle.wire.specs.declared.message.Certificate.{Certificate}
 use Rattle.wire.specs.declared.message.Message.{Message}
 use Rattle.wire.specs.declared.message.Parts.{Parts}
 use Rattle.wire.specs.declared.message.Parts.the-variants.{Proposal, Vote, Blame, Certified, Notice}
+
+-- a rank in two bytes and two
+abbrev pub RankHeld : Rank → Type 0
+RankHeld r = TwoBytes (r .view) × TwoBytes (r .turn)
 
 abbrev pub okIf : Bool → Refusal → Result Unit Refusal
 okIf test e = cond test (Ok tt) (Err e)

@@ -2,6 +2,7 @@
 pub mod asking;
 pub mod block;
 pub(crate) mod fields;
+pub mod laws;
 pub mod maker;
 pub(crate) mod masks;
 pub mod message;

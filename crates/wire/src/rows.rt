@@ -1,7 +1,7 @@
 // Seals kept by seat, and seals in a row.
 ghost use mathlib.Core.Path.{_≡_};
 ghost use mathlib.Core.List.{List, _++_};
-ghost use Prim.Native.Nat.{ℕ, _+_, _<_, _≤_, _^_, min};
+ghost use Prim.Native.Nat.{ℕ, _+_, _<_, _≤_};
 ghost use lib.ListN.{length, replicate};
 ghost use Rattle.std.specs.declared.option.Option.the-variants.{None};
 ghost use Rattle.wire.specs.Keeping.{hasKept, keepSeal, padded, Poured};
@@ -54,7 +54,8 @@ fn mask_kept<const S: usize>(slots: &[Option<[u8; S]>]) -> u16
 
 // Adds bytes to a row, as far as they fit.
 fn pour(mut row: [u8; ROW], mut at: usize, bytes: &[u8]) -> ([u8; ROW], usize)
-    ensures { λ r. ⌜ ((xs : List ℕ) → Poured xs row at → Poured (xs ++ now (bytes .entry)) (r .0) (r .1)) ⌝ }
+    ensures more { λ r. ⌜ ((xs : List ℕ) → Poured xs row at → Poured (xs ++ now (bytes .entry)) (r .0) (r .1)) ⌝ }
+    ensures whole { λ r. ⌜ (row ≡ replicate 512 0 → at ≡ 0 → r .0 ≡ padded 512 (now (bytes .entry))) ⌝ }
 {
     for byte in bytes {
         if at < ROW {

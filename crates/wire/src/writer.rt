@@ -1,6 +1,6 @@
 // Writing a message into memory, field after field.
 ghost use mathlib.Core.Path.{_≡_};
-ghost use Prim.Native.Nat.{ℕ, _+_, _^_, _<_, _≤_};
+ghost use Prim.Native.Nat.{_+_, _^_, _<_, _≤_};
 ghost use lib.ListN.{length};
 ghost use Rattle.wire.specs.Layout.{blockBytes, bodyBytes, messageBytes};
 ghost use Rattle.wire.specs.Meaning.{plain, plainParent, plainCertificate};

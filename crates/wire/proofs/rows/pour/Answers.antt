@@ -1,7 +1,7 @@
 use mathlib.Core.Path.{ap, sym, refl}
-use mathlib.Core.List.{_++_}
+use mathlib.Core.List.{[], _++_}
 use Rattle.std.proofs.shelf.Lists.{take-all}
-use Rattle.wire.proofs.Keeping.{poured-more, poured-still, poured-as}
+use Rattle.wire.proofs.Keeping.{poured-more, poured-still, poured-as, poured-none}
 use Rattle.wire.proofs.rows.pour.Needs as need
 use Rattle.wire.proofs.rows.pour.Needs.{then-at-lt-ROW, else-at-lt-ROW}
 
@@ -16,6 +16,9 @@ loop-byte-again c xs p =
     ]
 
 pub returns : need.returns
-returns c xs p =
-    poured-as (ap (λ ys. xs ++ ys) (sym (take-all (c .loop-byte .byte-index) (c .args .bytes .now) (c .loop-byte-test .left)))) refl refl
-    (c .loop-byte .inv xs p)
+returns c =
+    let all = take-all (c .loop-byte .byte-index) (c .args .bytes .now) (c .loop-byte-test .left) in
+    record {
+      more = λ xs p. poured-as (ap (λ ys. xs ++ ys) (sym all)) refl refl (c .loop-byte .inv xs p);
+      whole = λ r a. poured-as (sym all) refl refl (c .loop-byte .inv [] (poured-as refl r a poured-none)) .is;
+    }

@@ -17,7 +17,7 @@ loop-i-again g c =
     let more = row-more (c .args .slots .now) (c .loop-i .i) slot (c .loop-i-test .taken) (c .index-slots-i .is) in
     let before = rowKept (take (c .loop-i .i) (c .args .slots .now)) in
     elim (c .match-slots-i .came) [
-      | in-Some w ↦ poured-as (more ∙ ap (λ s. before ++ rowOne s) (w .in-Some .is)) (w .row-is) (w .at-is) (w .pour .ensures before (c .loop-i .inv))
+      | in-Some w ↦ poured-as (more ∙ ap (λ s. before ++ rowOne s) (w .in-Some .is)) (w .row-is) (w .at-is) (w .pour .ensures .more before (c .loop-i .inv))
       | in-rest w ↦ poured-as (more ∙ ap (λ s. before ++ rowOne s) (w .in-rest .is) ∙ append-nil before) (w .row-is) (w .at-is) (c .loop-i .inv)
     ]
 

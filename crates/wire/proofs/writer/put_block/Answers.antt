@@ -1,6 +1,4 @@
-use Prim.Native.Nat.{_+_}
-use mathlib.Core.Path.{_≡_, _∙_}
-use native.Mathlib.Omega.{arith}
+use mathlib.Core.Path.{_∙_}
 use borrow.Author.Needs.{needs}
 use Rattle.content.proofs.Numbers.{to-le-32}
 use Rattle.wire.proofs.Places.{put-as, put-then}

@@ -1,8 +1,7 @@
 use borrow.Author.Needs.{needs}
-use mathlib.Core.Path.{ap, sym, _∙_}
+use mathlib.Core.Path.{ap, sym}
 use Rattle.wire.specs.Layout.{messageBytes}
 use Rattle.wire.specs.Meaning.{plain}
-use Rattle.wire.specs.Writing.{messageSize}
 use Rattle.wire.proofs.Places.{put-as}
 use Rattle.wire.proofs.writer.put_parts.Needs as need
 
