@@ -4,3 +4,4 @@ pub mod Doing
 pub mod Offers
 pub mod Proposals
 pub mod Ticks
+pub mod Room

@@ -4,14 +4,19 @@ ghost use mathlib.Core.List.{[], _∷_, _++_};
 ghost use Prim.Native.Nat.{_+_, _≤_};
 ghost use lib.ListN.{length};
 ghost use Rattle.shelf.specs.Blocks.{held, size};
-ghost use Rattle.wire.specs.Meaning.{plainCertificate};
+ghost use Rattle.wire.specs.Lawful.{LawfulParts};
+ghost use Rattle.wire.specs.Meaning.{plain, plainCertificate};
 ghost use Rattle.seat.specs.Does.{Does};
-ghost use Rattle.seat.specs.HandIn.{leavesBy, notice, takeIn};
+ghost use Rattle.seat.specs.HandIn.{handParts, leavesBy, notice, takeIn};
 ghost use Rattle.seat.specs.Sends.{relay};
 use crate::answer::Answer;
 use crate::answer::Item;
 use crate::answer::Word;
+use crate::counting::blame;
+use crate::counting::vote;
+use crate::proposing::proposal;
 use crate::state::State;
+use crate::state::Terms;
 use crate::taking::Verdict;
 use crate::taking::judge_in;
 use crate::taking::take;
@@ -19,6 +24,7 @@ use content::kind::Content;
 use content::refusal::Refusal;
 use shelf::Shelf;
 use wire::message::Certificate;
+use wire::message::Parts;
 
 // The last view cannot be blamed.
 pub const LAST_VIEW: u16 = 65_535;
@@ -77,4 +83,33 @@ fn notice<const L: usize, const S: usize, C: Content<L>>(
         message: Some(Item::Inbox),
         blame: None,
     })
+}
+
+// A message whose layout is lawful and whose seals are good: what each kind does to the seat.
+pub fn hand_parts<const L: usize, const S: usize, C: Content<L>>(
+    terms: &Terms,
+    state: &mut State<S, C::Record>,
+    shelf: &mut Shelf<'_, C::Record>,
+    parts: &Parts<C::Record, &[u8]>,
+    outbox: &mut [u8],
+) -> Result<Answer, Refusal>
+    requires lawful { ⌜ LawfulParts (C·Content .kind) S (now terms .seats .n) (plain (now parts)) ⌝ }
+    requires size { ⌜ S ≤ 64 ⌝ }
+    requires room { ⌜ 1024 ≤ length (now outbox) ⌝ }
+    ensures does { λ r. ⌜ Does (C·Content .kind) (handParts (C·Content .kind) (now (terms .entry)) (now (state .entry)) (held (now (shelf .entry))) (size (now (shelf .entry))) (plain (now (parts .entry)))) (now (state .entry)) (held (now (shelf .entry))) (now (outbox .entry)) r (now (state .exit)) (held (now (shelf .exit))) (now (outbox .exit)) ⌝ }
+    ensures cells { λ _. ⌜ size (now (shelf .exit)) ≡ size (now (shelf .entry)) ⌝ }
+{
+    match parts {
+        Parts::Proposal { block, parent, .. } => {
+            proposal::<L, S, C>(terms, state, shelf, block, parent, outbox)
+        }
+        Parts::Vote { seat, block, seal } => {
+            vote::<L, S, C>(terms, state, shelf, *seat, block, seal, outbox)
+        }
+        Parts::Blame { seat, view, seal } => {
+            blame::<L, S, C>(terms, state, shelf, *seat, *view, seal, outbox)
+        }
+        Parts::Certified(c) => certificate::<L, S, C>(state, shelf, c, outbox),
+        Parts::Notice { view, .. } => notice::<L, S, C>(state, shelf, *view, outbox),
+    }
 }
