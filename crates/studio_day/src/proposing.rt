@@ -1,4 +1,4 @@
-// One message: made, written, sealed and opened, and refused in every way in which it can be damaged.
+// One message: made, written, sealed and opened; damaged, it is refused.
 use crate::hex::Hex;
 use crate::hex::HexDisplay;
 use crate::refused::refused;
