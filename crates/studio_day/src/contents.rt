@@ -1,6 +1,7 @@
 // What studios log: edits and chapter marks, made, written, read back, and refused.
 use crate::hex::Hex;
 use crate::hex::HexDisplay;
+use crate::refused::refused;
 use content::edit::Edit;
 use content::edit::EditContent;
 use content::kind::Content;
@@ -9,8 +10,6 @@ use content::kind::read_content;
 use content::kind::write_content;
 use content::mark::ChapterMark;
 use content::mark::MarkContent;
-use content::refusal::Refusal;
-use content::refusal::RefusalDisplay;
 use std::io;
 use std::str::from_utf8;
 
@@ -134,13 +133,4 @@ fn copied<const L: usize, C: Content<L>>(
         Ok(n) => println!(rt, "{what} is copied, {n} bytes."),
         Err(no) => refused(rt, what, no),
     }
-}
-
-fn refused(rt: &impl Print, what: &str, no: Refusal) -> io::Result<()> {
-    println!(
-        rt,
-        "{what} is refused by number {} with detail {}: {no}.",
-        no.number(),
-        no.detail()
-    )
 }
