@@ -43,7 +43,7 @@ module _ {L S : ℕ} {R : Type 0} (k : Kind L R) (s : State S R) (bs : List (Blo
   judge-plain p q r = picks-plain (extends k bs (s .committed) b) (Ok New) (Err Full) (Err Orphan) (parentThere bs b) (ltb (length bs) cells) (commits s b) p q r
 
   pub judge-extends : true ≡ parentThere bs b → false ≡ not (ltb (length bs) cells) → true ≡ commits s b →
-    extends k bs (s .committed) b ≡ judgeNew k s bs cells b
+      extends k bs (s .committed) b ≡ judgeNew k s bs cells b
   judge-extends p q r = picks-first (extends k bs (s .committed) b) (Ok New) (Err Full) (Err Orphan) (parentThere bs b) (ltb (length bs) cells) (commits s b) p q r
 
   -- a new certificate found room
@@ -77,6 +77,6 @@ module _ {R : Type 0} (c : Certificate R (List ℕ)) where
 
 module _ {S : ℕ} {R : Type 0} (c : Certificate R (List ℕ)) (s : State S R) where
   pub shelve-is : (h f : Bool) (t u v : State S R) → h ≡ here s (c .block) → f ≡ commits s (c .block) →
-    t ≡ withBest (better (s .best) c) s → u ≡ cond h (turnRises (min (t .turn + 1) 4294967295) t) t →
-    v ≡ cond f (withCommitted (c .block) u) u → v ≡ shelve c s
+      t ≡ withBest (better (s .best) c) s → u ≡ cond h (turnRises (min (t .turn + 1) 4294967295) t) t →
+      v ≡ cond f (withCommitted (c .block) u) u → v ≡ shelve c s
   shelve-is h f t u v eh ef et eu ev = rw (ev, eu, et, eh, ef) refl

@@ -26,10 +26,11 @@ module _ {L S : ℕ} {R : Type 0} (k : Kind L R) {s : State S R} {bs : List (Blo
   -- the model's outcome may be written in another way
   pub does-at : (r q : Result (Outcome S R) Refusal) → r ≡ q → Does k r s bs out a s′ bs′ out′ → Does k q s bs out a s′ bs′ out′
   does-at r q e h = record {
-      answer = h .answer ∙ ap (λ x. answerAfter k x) e;
-      state = h .state ∙ ap (λ x. stepState s x) e;
-      blocks = h .blocks ∙ ap (λ x. blocksAfter bs x) e;
-      outbox = h .outbox ∙ ap (λ x. boxAfter k out x) e }
+    answer = h .answer ∙ ap (λ x. answerAfter k x) e;
+    state = h .state ∙ ap (λ x. stepState s x) e;
+    blocks = h .blocks ∙ ap (λ x. blocksAfter bs x) e;
+    outbox = h .outbox ∙ ap (λ x. boxAfter k out x) e;
+  }
 
 module _ {S : ℕ} {R : Type 0} (s : State S R) (bs : List (Block R)) (view : ℕ) where
   pub skips : {X : Type 0} (x y z : X) (b : Bool) → (view ≡ lastView → ⊥) → false ≡ b → z ≡ cond (eqb view lastView) x (cond b y z)

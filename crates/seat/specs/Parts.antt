@@ -45,9 +45,21 @@ module _ {S : ℕ} {R : Type 0} where
 
   abbrev pub withRound : Round S R → State S R → State S R
   withRound round s = record {
-      now = s .now; phase = s .phase; view = s .view; turn = s .turn; lock = s .lock; best = s .best; round = round;
-      spoiled = s .spoiled; blamed = s .blamed; blames = s .blames; progress = s .progress;
-      committed = s .committed; entered = s .entered; slip = s .slip }
+    now = s .now;
+    phase = s .phase;
+    view = s .view;
+    turn = s .turn;
+    lock = s .lock;
+    best = s .best;
+    round = round;
+    spoiled = s .spoiled;
+    blamed = s .blamed;
+    blames = s .blames;
+    progress = s .progress;
+    committed = s .committed;
+    entered = s .entered;
+    slip = s .slip;
+  }
 
   abbrev pub withNote : Option (Note R) → State S R → State S R
   withNote note s = record {

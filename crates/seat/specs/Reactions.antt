@@ -88,8 +88,12 @@ blamesBy S p view ClashAndBlame = Some (write (Blame (p .own) view (zeroSeal S))
 module _ {L : ℕ} {R : Type 0} (k : Kind L R) where
   abbrev pub says : Answer → Word → Option Item → Option (Sending R) → Answer
   says a word message blame = record {
-      word = word; height = a .height; certificate = a .certificate; message = message;
-      blame = itemAt k (endOf (a .certificate)) blame }
+    word = word;
+    height = a .height;
+    certificate = a .certificate;
+    message = message;
+    blame = itemAt k (endOf (a .certificate)) blame;
+  }
 
   abbrev pub responded : Answer → Option (Sending R) → Reaction → Answer
   responded a blame Nothing = a

@@ -61,9 +61,7 @@ impl<const S: usize, R: Copy> State<S, R> {
         ensures { λ r. ⌜ r ≡ atSlot (now (self .entry) .phase) (now (self .entry)) (now (block .entry)) ⌝ }
     {
         match self.phase {
-            Phase::On => {
-                (self.view == block.rank.view) & (self.turn == block.rank.turn as u32)
-            }
+            Phase::On => { (self.view == block.rank.view) & (self.turn == block.rank.turn as u32) }
             Phase::Leaving { .. } => {
                 (self.view as u32 + 1 == block.rank.view as u32) & (block.rank.turn == 0)
             }

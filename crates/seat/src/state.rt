@@ -88,12 +88,16 @@ impl<const S: usize, R: Copy> State<S, R> {
             best: None,
             round: Round {
                 note: None,
-                votes: SealRow { by_seat: [None; 15] },
+                votes: SealRow {
+                    by_seat: [None; 15],
+                },
                 offered: false,
             },
             spoiled: false,
             blamed: false,
-            blames: SealRow { by_seat: [None; 15] },
+            blames: SealRow {
+                by_seat: [None; 15],
+            },
             progress: 0,
             committed: None,
             entered: 0,
@@ -116,7 +120,9 @@ impl<const S: usize, R: Copy> State<S, R> {
     {
         self.round = Round {
             note: None,
-            votes: SealRow { by_seat: [None; 15] },
+            votes: SealRow {
+                by_seat: [None; 15],
+            },
             offered: false,
         };
     }
@@ -130,6 +136,8 @@ impl<const S: usize, R: Copy> State<S, R> {
         self.new_round();
         self.spoiled = false;
         self.blamed = false;
-        self.blames = SealRow { by_seat: [None; 15] };
+        self.blames = SealRow {
+            by_seat: [None; 15],
+        };
     }
 }

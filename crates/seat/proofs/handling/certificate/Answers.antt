@@ -13,8 +13,8 @@ use Rattle.seat.proofs.handling.certificate.Needs as need
 pub take-requires : need.take-requires
 take-requires g c κs =
     let room =
-      new-has-room (g .C·Content .kind) (c .args .state .now) (held (c .args .shelf .now)) (size (c .args .shelf .now)) (c .args .c .now .block)
-        (sym (c .in-Continue-judge-in .ensures tt) ∙ ap (λ v. Ok v) (c .in-New .is)) in
+    new-has-room (g .C·Content .kind) (c .args .state .now) (held (c .args .shelf .now)) (size (c .args .shelf .now)) (c .args .c .now .block)
+    (sym (c .in-Continue-judge-in .ensures tt) ∙ ap (λ v. Ok v) (c .in-New .is)) in
     search needs
 
 pub returns-in-Break-judge-in : need.returns-in-Break-judge-in
@@ -22,6 +22,7 @@ returns-in-Break-judge-in g c =
     let p = err-from-errBy (c .from-residual .result) (c .from-residual .ensures .1) in
     record {
       does = does-at (g .C·Content .kind) (Err (c .in-Break-judge-in .field-0 .0)) (takeIn (g .C·Content .kind) (c .args .state .now) (held (c .args .shelf .now)) (size (c .args .shelf .now)) (plainCertificate (c .args .c .now)) relay)
-        (take-in-at (g .C·Content .kind) (c .args .state .now) (held (c .args .shelf .now)) (size (c .args .shelf .now)) (plainCertificate (c .args .c .now)) relay (Err (c .in-Break-judge-in .field-0 .0)) (c .in-Break-judge-in .ensures tt))
-        (record { answer = p .1 ∙ ap (λ e. Err e) (p .2); state = refl; blocks = refl; outbox = refl });
-      size = refl }
+          (take-in-at (g .C·Content .kind) (c .args .state .now) (held (c .args .shelf .now)) (size (c .args .shelf .now)) (plainCertificate (c .args .c .now)) relay (Err (c .in-Break-judge-in .field-0 .0)) (c .in-Break-judge-in .ensures tt))
+          (record { answer = p .1 ∙ ap (λ e. Err e) (p .2); state = refl; blocks = refl; outbox = refl });
+      size = refl;
+    }

@@ -20,7 +20,7 @@ proposal-requires g c κs =
     let law = c .args .terms .now .seats .lawful in
     let l = subst (λ m. LawfulParts (g .C·Content .kind) (g .S) n (plain m)) (c .in-Proposal .is) (c .pre .lawful) in
     let p : parentSize (g .L) (plainParent (c .in-Proposal .parent)) ≤ 590 =
-      parent-small (g .C·Content .kind) (g .S) n (c .in-Proposal .block) law (c .pre .size) (plainParent (c .in-Proposal .parent)) (l .2) in
+    parent-small (g .C·Content .kind) (g .S) n (c .in-Proposal .block) law (c .pre .size) (plainParent (c .in-Proposal .parent)) (l .2) in
     let s : g .S ≤ 64 = c .pre .size in
     let r : 1024 ≤ length (c .args .outbox .now) = c .pre .room in
     (search needs, omega arith)
@@ -50,8 +50,9 @@ returns-in-Vote g c =
     let terms = c .args .terms .now in
     record {
       does = does-at k (votes k terms s bs cells (c .in-Vote .seat) (c .in-Vote .block) (c .in-Vote .seal .now)) (handParts k terms s bs cells (plain (c .args .parts .now)))
-        (ap (λ m. handParts k terms s bs cells (plain m)) (sym (c .in-Vote .is))) (c .vote .ensures .does);
-      cells = c .vote .ensures .size }
+          (ap (λ m. handParts k terms s bs cells (plain m)) (sym (c .in-Vote .is))) (c .vote .ensures .does);
+      cells = c .vote .ensures .size;
+    }
 
 pub returns-in-Blame : need.returns-in-Blame
 returns-in-Blame g c =
@@ -62,8 +63,9 @@ returns-in-Blame g c =
     let terms = c .args .terms .now in
     record {
       does = does-at k (blames terms s bs (c .in-Blame .seat) (c .in-Blame .view) (c .in-Blame .seal .now)) (handParts k terms s bs cells (plain (c .args .parts .now)))
-        (ap (λ m. handParts k terms s bs cells (plain m)) (sym (c .in-Blame .is))) (c .blame .ensures .does);
-      cells = refl }
+          (ap (λ m. handParts k terms s bs cells (plain m)) (sym (c .in-Blame .is))) (c .blame .ensures .does);
+      cells = refl;
+    }
 
 pub returns-in-Certified : need.returns-in-Certified
 returns-in-Certified g c =
@@ -74,8 +76,9 @@ returns-in-Certified g c =
     let terms = c .args .terms .now in
     record {
       does = does-at k (takeIn k s bs cells (plainCertificate (c .in-Certified .c)) relay) (handParts k terms s bs cells (plain (c .args .parts .now)))
-        (ap (λ m. handParts k terms s bs cells (plain m)) (sym (c .in-Certified .is))) (c .certificate .ensures .does);
-      cells = c .certificate .ensures .size }
+          (ap (λ m. handParts k terms s bs cells (plain m)) (sym (c .in-Certified .is))) (c .certificate .ensures .does);
+      cells = c .certificate .ensures .size;
+    }
 
 pub returns-in-Notice : need.returns-in-Notice
 returns-in-Notice g c =
@@ -86,5 +89,6 @@ returns-in-Notice g c =
     let terms = c .args .terms .now in
     record {
       does = does-at k (notices s bs (c .in-Notice .view)) (handParts k terms s bs cells (plain (c .args .parts .now)))
-        (ap (λ m. handParts k terms s bs cells (plain m)) (sym (c .in-Notice .is))) (c .notice .ensures .does);
-      cells = refl }
+          (ap (λ m. handParts k terms s bs cells (plain m)) (sym (c .in-Notice .is))) (c .notice .ensures .does);
+      cells = refl;
+    }

@@ -8,4 +8,5 @@ returns-then-not-same-block g c =
     let e = meets-clash (g .C·Content .kind) (c .args .state .now) (c .args .block .now) (c .args .note) (c .if-not-same-block .ensures tt) in
     record {
       reaction = c .clash .ensures .reaction ∙ e;
-      state = c .clash .ensures .state (c .args .note) ∙ ap (λ x. reacted (c .args .state .now) (c .args .note) x) e }
+      state = c .clash .ensures .state (c .args .note) ∙ ap (λ x. reacted (c .args .state .now) (c .args .note) x) e;
+    }

@@ -22,10 +22,11 @@ returns-in-Break-answer g c =
     let parent = plainParent (c .args .parent .now) in
     let p = err-from-errBy (c .from-residual .result) (c .from-residual .ensures .1) in
     let t = does-at k (carried (proposed k terms b) (parentTaken k s bs cells parent)) (proposing k terms s bs cells b parent) (proposal-is k s bs cells terms b parent)
-              (refused-too k (proposed k terms b) (parentTaken k s bs cells parent) (c .in-Break-answer .ensures tt .does)) in
+    (refused-too k (proposed k terms b) (parentTaken k s bs cells parent) (c .in-Break-answer .ensures tt .does)) in
     record {
       does = record { answer = (p .1 ∙ ap (λ e. Err e) (p .2)) ∙ t .answer; state = t .state; blocks = t .blocks; outbox = t .outbox };
-      size = c .in-Break-answer .ensures tt .size }
+      size = c .in-Break-answer .ensures tt .size;
+    }
 
 pub react-reaction-requires : need.react-reaction-requires
 react-reaction-requires g c κs = search needs
@@ -41,6 +42,7 @@ returns g c =
     let parent = plainParent (c .args .parent .now) in
     record {
       does = does-at k (carried (proposed k terms b) (parentTaken k s bs cells parent)) (proposing k terms s bs cells b parent) (proposal-is k s bs cells terms b parent)
-        (proposal-does k terms b (c .react-reaction .result) (parentTaken k s bs cells parent) (quiet-parent k s bs cells parent) (c .in-Continue-answer .ensures tt .does)
+          (proposal-does k terms b (c .react-reaction .result) (parentTaken k s bs cells parent) (quiet-parent k s bs cells parent) (c .in-Continue-answer .ensures tt .does)
           (c .react-reaction .ensures .reaction) (c .react-reaction .ensures .state) (c .respond .ensures .answer) (c .respond .ensures .outbox));
-      size = c .in-Continue-answer .ensures tt .size }
+      size = c .in-Continue-answer .ensures tt .size;
+    }

@@ -17,7 +17,7 @@ use Rattle.seat.proofs.proposing.take_parent.Needs as need
 pub take-written-requires : need.take-written-requires
 take-written-requires g c κs =
     let fits : 1 + bodySize (g .L) (plainCertificate (c .in-Some .c)) ≤ length (c .args .outbox .now) =
-      subst (λ o. 1 + parentSize (g .L) (plainParent o) ≤ length (c .args .outbox .now)) (c .in-Some .is) (c .pre) in
+    subst (λ o. 1 + parentSize (g .L) (plainParent o) ≤ length (c .args .outbox .now)) (c .in-Some .is) (c .pre) in
     search needs
 
 pub returns-in-Some : need.returns-in-Some
@@ -29,6 +29,7 @@ returns-in-Some g c =
     let cert = plainCertificate (c .in-Some .c) in
     record {
       does = does-at k (takeIn k s bs cells cert (write (Certified cert))) (parentTaken k s bs cells (plainParent (c .args .parent .now)))
-        (ap (λ o. parentTaken k s bs cells (plainParent o)) (sym (c .in-Some .is))) (c .take-written .ensures .does);
+          (ap (λ o. parentTaken k s bs cells (plainParent o)) (sym (c .in-Some .is))) (c .take-written .ensures .does);
       end = subst (λ o. made (c .take-written .result) (λ a. endOf (a .certificate) ≤ 1 + parentSize (g .L) (plainParent o))) (sym (c .in-Some .is)) (c .take-written .ensures .end);
-      size = c .take-written .ensures .size }
+      size = c .take-written .ensures .size;
+    }

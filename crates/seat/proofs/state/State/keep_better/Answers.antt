@@ -8,10 +8,10 @@ use Rattle.seat.proofs.state.State.keep_better.Needs as need
 pub returns-then-not-above : need.returns-then-not-above
 returns-then-not-above g c =
     ap (λ best. withBest best (c .args .self .now))
-      (sym (better-no (plainCertificate (c .args .c .now)) (c .args .self .now .best) (c .if-not-above .ensures tt)))
+    (sym (better-no (plainCertificate (c .args .c .now)) (c .args .self .now .best) (c .if-not-above .ensures tt)))
 
 pub returns : need.returns
 returns g c =
     ap (λ best. withBest best (c .args .self .now))
-      (ap (λ kept. Some kept) (c .kept .ensures) ∙
-       sym (better-yes (plainCertificate (c .args .c .now)) (c .args .self .now .best) (c .if-not-above .ensures tt)))
+    (ap (λ kept. Some kept) (c .kept .ensures) ∙
+    sym (better-yes (plainCertificate (c .args .c .now)) (c .args .self .now .best) (c .if-not-above .ensures tt)))
