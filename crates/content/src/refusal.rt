@@ -1,6 +1,7 @@
 // Why a call says no: one enum for the whole product. Each case has a number, which never changes, and a
 // detail: the offset of the field for 1 to 6, the seat that was asked for 7, and 0 for every other.
-ghost use Rattle.std.specs.Prelude.{◌≡◌, ◌&&◌, ◌==◌};
+ghost use Rattle.std.specs.Prelude.{◌≡◌, nat_eq};
+ghost use Rattle.std.specs.Ordering.{eq_of_both, on};
 ghost use Rattle.content.specs.Refusals.{number_of, detail_of};
 ghost use Rattle.std.specs.Cmp.Rules.{comparing};
 ghost use Rattle.std.proofs.Common.{rules};
@@ -143,7 +144,7 @@ impl Refusal {
 
 // Two refusals are equal if they have one number and one detail.
 impl PartialEq for Refusal {
-    ghost eq = { λ a b. (number_of a == number_of b && detail_of a == detail_of b) };
+    ghost eq = { eq_of_both (on number_of nat_eq) (on detail_of nat_eq) };
 
     ghost laws = { Keys.partial_equiv_from_equiv (Prim.search (comparing, rules)) };
 

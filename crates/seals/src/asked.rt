@@ -14,8 +14,8 @@ pub struct Question<'a> {
 
 // The check's answer to a question.
 pub fn ask<const S: usize, K: SealCheck<S>>(check: &mut K, q: Question) -> bool
-    ensures answer { result ≡ accepts check.old q.entry.seat (q.entry.tag ∷ q.entry.body.now) q.entry.seal.now }
-    ensures kept { accepts check.new ≡ accepts check.old }
+    ensures answer { result ≡ K.accepts check.old q.entry.seat (q.entry.tag ∷ q.entry.body.now) q.entry.seal.now }
+    ensures kept { K.accepts check.new ≡ K.accepts check.old }
 {
     check.check(q.seat, q.tag, q.body, q.seal)
 }
@@ -27,7 +27,7 @@ pub fn same_in_any_order<const S: usize, K: SealCheck<S>>(
     b: Question,
 ) -> bool
     ensures always { result ≡ true }
-    ensures kept { accepts check.new ≡ accepts check.old }
+    ensures kept { K.accepts check.new ≡ K.accepts check.old }
 {
     let (a_first, b_first) = (ask(check, a), ask(check, b));
     let (b_again, a_again) = (ask(check, b), ask(check, a));

@@ -1,5 +1,6 @@
 -- What the calls that fill a shelf leave, and what they answer.
 use Rattle.std.specs.Prelude.{◌≡◌, ℕ, ◌+◌, Bool, ◌&&◌, List, length, Some, None, Ok, Err, Option, Result, ◌==◌, nat_le, nat_lt, slice_set}
+use denote.Bor.{Bor}
 use denote.Ref.{MutBor, at_last}
 use Rattle.blocks.specs.declared.block.Block.{Block}
 use Rattle.shelf.specs.declared.Shelf.{Shelf}
@@ -31,11 +32,11 @@ module _ {R : Type 0} where
   with_filled s k = record { cells = s.cells; len = k }
 
 -- what stands behind a reference that was answered
-abbrev pub behind : {A E : Type 0} → Result (MutBor A) E → Result A E
+abbrev pub behind : {A E : Type 0} → Result (Bor A) E → Result A E
 behind (Ok r) = Ok r.now
 behind (Err e) = Err e
 
-abbrev pub behind_some : {A E : Type 0} → Result (Option (MutBor A)) E → Result (Option A) E
+abbrev pub behind_some : {A E : Type 0} → Result (Option (Bor A)) E → Result (Option A) E
 behind_some (Ok None) = Ok None
 behind_some (Ok (Some r)) = Ok (Some r.now)
 behind_some (Err e) = Err e

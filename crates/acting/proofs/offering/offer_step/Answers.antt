@@ -5,16 +5,16 @@ use Rattle.acting.proofs.offering.offer_step.Goals as goal
 
 pub returns-in_err-record : goal.returns-in_err-record
 returns-in_err-record g c =
-    let p = err_from_is_err_and c.from-residual.result c.from-residual.ensures.1 in
+    let p = err_from_is_err_and c.from_residual.result c.from_residual.ensures.1 in
     let h = offer-unread g.C.Content.kind c.args.terms.now (g.Q.Rota.leads c.args.rota.now) c.args.state.now [] c.args.content.now
-    c.in_err-record.field-0.0 p.0 c.from-residual.result c.args.outbox.now c.in_err-record.ensures p.1 p.2 in
+    c.in_err-record.field-0.0 p.0 c.from_residual.result c.args.outbox.now c.in_err-record.ensures p.1 p.2 in
     record { answer = h.answer_is; state = h.state_is; outbox = h.outbox_is }
 
 pub returns-in_err-may_offer : goal.returns-in_err-may_offer
 returns-in_err-may_offer g c =
-    let p = err_from_is_err_and c.from-residual-in_err-may_offer.result c.from-residual-in_err-may_offer.ensures.1 in
+    let p = err_from_is_err_and c.from_residual-in_err-may_offer.result c.from_residual-in_err-may_offer.ensures.1 in
     let h = offer_barred g.C.Content.kind c.args.terms.now (g.Q.Rota.leads c.args.rota.now) c.args.state.now [] c.args.content.now
-    c.in_ok-record.record c.in_err-may_offer.field-0.0 p.0 c.from-residual-in_err-may_offer.result c.args.outbox.now
+    c.in_ok-record.record c.in_err-may_offer.field-0.0 p.0 c.from_residual-in_err-may_offer.result c.args.outbox.now
     c.in_ok-record.ensures c.in_err-may_offer.ensures p.1 p.2 in
     record { answer = h.answer_is; state = h.state_is; outbox = h.outbox_is }
 

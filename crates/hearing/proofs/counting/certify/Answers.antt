@@ -3,8 +3,8 @@ use Rattle.shelf.specs.Blocks.{held}
 use Rattle.hearing.proofs.Counts.{certificate_of_lem, certifies, row-holds, row_room, seals_of_lem}
 use Rattle.hearing.proofs.counting.certify.Goals as goal
 
-pub overflow-mul-seals : goal.overflow-mul-seals
-overflow-mul-seals g c =
+pub overflow_mul-seals : goal.overflow_mul-seals
+overflow_mul-seals g c =
     let h : c.count.result * g.row.S ≤ 512 = seals_of_lem c.args.state.now.round.votes c.count.result c.requires.seal c.count.ensures c.requires.count in
     search rules
 

@@ -18,7 +18,7 @@ returns-in_err-answer g c =
     let terms = c.args.terms.now in
     let b = c.args.block.now in
     let parent = plain_parent c.args.parent.now in
-    let p = err_from_is_err_and c.from-residual.result c.from-residual.ensures.1 in
+    let p = err_from_is_err_and c.from_residual.result c.from_residual.ensures.1 in
     let t = does_at k (carried (proposed k terms b) (parent_taken k s bs cells parent)) (proposing k terms s bs cells b parent) (proposal-is k s bs cells terms b parent)
     (refused_too k (proposed k terms b) (parent_taken k s bs cells parent) c.in_err-answer.ensures.does) in
     record {

@@ -18,7 +18,7 @@ take-requires g c =
 
 pub returns-in_err-judge_in : goal.returns-in_err-judge_in
 returns-in_err-judge_in g c =
-    let p = err_from_is_err_and c.from-residual.result c.from-residual.ensures.1 in
+    let p = err_from_is_err_and c.from_residual.result c.from_residual.ensures.1 in
     let cert = plain_certificate c.args.c.now in
     record {
       does = does_at g.C.Content.kind (Err c.in_err-judge_in.field-0.0) (take_in g.C.Content.kind c.args.state.now (held c.args.shelf.now) (size c.args.shelf.now) cert (write (Certified cert)))

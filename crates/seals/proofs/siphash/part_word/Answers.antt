@@ -24,13 +24,13 @@ more xs i j w e h v b l =
 pub loop-i-init : goal.loop-i-init
 loop-i-init c = none c.args.bytes.now
 
-pub overflow-mul-word : goal.overflow-mul-word
-overflow-mul-word c =
+pub overflow_mul-word : goal.overflow_mul-word
+overflow_mul-word c =
     let s : c.loop-i.word < 256 ^ 6 = fits_in 6 (omega arith) c.loop-i.invariant.1 in
     omega arith
 
-pub overflow-add-word : goal.overflow-add-word
-overflow-add-word c =
+pub overflow_add-word : goal.overflow_add-word
+overflow_add-word c =
     let s : c.loop-i.word < 256 ^ 6 = fits_in 6 (omega arith) c.loop-i.invariant.1 in
     omega (arith, c.type_inv.bytes (c.loop-i.i - 1))
 

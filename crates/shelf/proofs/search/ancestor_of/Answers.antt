@@ -15,7 +15,7 @@ loop-init g c = ap (λ k. climb k c.args.blocks.now c.args.block.now) (sub-zero 
 
 pub returns-in_err-at : goal.returns-in_err-at
 returns-in_err-at g c =
-    let p = err_from_is_err_and c.from-residual.result c.from-residual.ensures.1 in
+    let p = err_from_is_err_and c.from_residual.result c.from_residual.ensures.1 in
     let e = climb-fails c.args.steps c.loop.counter c.args.blocks.now c.loop.at.now c.in_err-at.field-0.0 c.loop-test.true c.in_err-at.ensures in
     rw (p.1, p.2) (sym e ∙ c.loop.invariant)
 

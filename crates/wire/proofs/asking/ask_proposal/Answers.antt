@@ -12,7 +12,7 @@ part-requires g c = (proposal-lies g.C.Content.kind g.row.S c.args.n _ _ _ _ c.r
 pub returns-in_err-ask : goal.returns-in_err-ask
 returns-in_err-ask g c =
     let k = g.C.Content.kind in
-    let p = err_from_is_err_and c.from-residual.result c.from-residual.ensures.1 in
+    let p = err_from_is_err_and c.from_residual.result c.from_residual.ensures.1 in
     let own = proposal-lies k g.row.S c.args.n _ _ _ _ c.requires.back c.requires.lawful in
     let others = parent_asked k g.row.S c.args.n (g.Q.Rota.leads c.args.rota.now) (plain_parent c.args.parent.now) in
     record {

@@ -5,7 +5,7 @@ use Rattle.wire.proofs.fields.behind_seals.Goals as goal
 
 pub returns-in_err-next : goal.returns-in_err-next
 returns-in_err-next g c =
-    let p = err_from_is_err_and c.from-residual.result c.from-residual.ensures.1 in
+    let p = err_from_is_err_and c.from_residual.result c.from_residual.ensures.1 in
     rw (p.1, p.2) (seals_short _ _ c.loop-i.-i _ _ _ (omega arith) c.in_err-next.ensures.value ∙ c.loop-i.invariant.0)
 
 pub loop-i-preserved : goal.loop-i-preserved

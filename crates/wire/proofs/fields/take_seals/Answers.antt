@@ -2,8 +2,8 @@ use Rattle.std.proofs.Common.{arith}
 use Rattle.wire.proofs.SealRows.{seals_length, row-taken}
 use Rattle.wire.proofs.fields.take_seals.Goals as goal
 
-pub overflow-sub-src : goal.overflow-sub-src
-overflow-sub-src g c = omega (arith, seals_length g.row.S c.args.count c.args.at _ _ c.in_ok-rest.ensures)
+pub overflow_sub-src : goal.overflow_sub-src
+overflow_sub-src g c = omega (arith, seals_length g.row.S c.args.count c.args.at _ _ c.in_ok-rest.ensures)
 
 pub returns : goal.returns
 returns g c =

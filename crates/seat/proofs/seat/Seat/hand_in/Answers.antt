@@ -16,9 +16,9 @@ returns-in_err-ready g c =
     let bs = held c.args.shelf.now in
     let out = c.args.outbox.now in
     let e = c.in_err-ready.field-0.0 in
-    let p = err_from_is_err_and c.from-residual.result c.from-residual.ensures.1 in
+    let p = err_from_is_err_and c.from_residual.result c.from_residual.ensures.1 in
     record {
-      call = refused g.C.Content.kind s bs out _ e p.0 c.from-residual.result (unready s (length out) e _ c.in_err-ready.ensures) p.1 p.2;
+      call = refused g.C.Content.kind s bs out _ e p.0 c.from_residual.result (unready s (length out) e _ c.in_err-ready.ensures) p.1 p.2;
       terms = refl;
       cells = (refl, refl);
       check = refl;
@@ -30,9 +30,9 @@ returns-in_err-message g c =
     let bs = held c.args.shelf.now in
     let out = c.args.outbox.now in
     let e = c.in_err-message.field-0.0 in
-    let p = err_from_is_err_and c.from-residual-in_err-message.result c.from-residual-in_err-message.ensures.1 in
+    let p = err_from_is_err_and c.from_residual-in_err-message.result c.from_residual-in_err-message.ensures.1 in
     record {
-      call = refused g.C.Content.kind s bs out _ e p.0 c.from-residual-in_err-message.result
+      call = refused g.C.Content.kind s bs out _ e p.0 c.from_residual-in_err-message.result
           (hand_unopened g.C.Content.kind c.args.self.now.terms (g.Q.Rota.leads c.args.rota.now) (g.K.SealCheck.accepts c.args.check.now) s bs
           (size c.args.shelf.now) c.args.inbox.now (length out) c.in_ok-ready.ensures e c.in_err-message.ensures.value) p.1 p.2;
       terms = refl;
@@ -60,9 +60,9 @@ returns-in_err-answer g c =
     let out = c.args.outbox.now in
     let m = plain c.parts.result.now in
     let e = c.in_err-answer.field-0.0 in
-    let p = err_from_is_err_and c.from-residual-in_err-answer.result c.from-residual-in_err-answer.ensures.1 in
+    let p = err_from_is_err_and c.from_residual-in_err-answer.result c.from_residual-in_err-answer.ensures.1 in
     record {
-      call = refused-by k s bs out (hand_parts k t s bs cells m) _ e p.0 c.from-residual-in_err-answer.result
+      call = refused-by k s bs out (hand_parts k t s bs cells m) _ e p.0 c.from_residual-in_err-answer.result
           c.hand_parts.new.state (held c.hand_parts.new.shelf) c.hand_parts.new.outbox
           (hand-opened k t (g.Q.Rota.leads c.args.rota.now) (g.K.SealCheck.accepts c.args.check.now) s bs cells c.args.inbox.now (length out)
           c.in_ok-ready.ensures m (ap (λ x. Ok (plain x)) c.parts.ensures ∙ c.in_ok-message.ensures.value))

@@ -11,9 +11,9 @@ returns-in_err-ready g c =
     let s = c.args.self.now.state in
     let out = c.args.outbox.now in
     let e = c.in_err-ready.field-0.0 in
-    let p = err_from_is_err_and c.from-residual.result c.from-residual.ensures.1 in
+    let p = err_from_is_err_and c.from_residual.result c.from_residual.ensures.1 in
     record {
-      call = λ bs. refused g.C.Content.kind s bs out _ e p.0 c.from-residual.result (unready s (length out) e _ c.in_err-ready.ensures) p.1 p.2;
+      call = λ bs. refused g.C.Content.kind s bs out _ e p.0 c.from_residual.result (unready s (length out) e _ c.in_err-ready.ensures) p.1 p.2;
       terms = refl;
     }
 
@@ -33,12 +33,12 @@ returns-in_err-answer g c =
     let leader = g.Q.Rota.leads c.args.rota.now in
     let q = offer_step k t leader s [] c.args.content.now in
     let e = c.in_err-answer.field-0.0 in
-    let p = err_from_is_err_and c.from-residual-in_err-answer.result c.from-residual-in_err-answer.ensures.1 in
+    let p = err_from_is_err_and c.from_residual-in_err-answer.result c.from_residual-in_err-answer.ensures.1 in
     let d = c.in_err-answer.ensures in
     record {
-      call = λ bs. offers_anywhere k s bs out t leader c.args.content.now (length out) c.in_ok-ready.ensures c.from-residual-in_err-answer.result
+      call = λ bs. offers_anywhere k s bs out t leader c.args.content.now (length out) c.in_ok-ready.ensures c.from_residual-in_err-answer.result
           c.offer_step.new.state c.offer_step.new.outbox
-          (refused-by k s [] out q q e p.0 c.from-residual-in_err-answer.result c.offer_step.new.state [] c.offer_step.new.outbox refl
+          (refused-by k s [] out q q e p.0 c.from_residual-in_err-answer.result c.offer_step.new.state [] c.offer_step.new.outbox refl
           (record { answer = d.answer; state = d.state; blocks = offer-stays k s [] out t leader c.args.content.now; outbox = d.outbox }) p.1 p.2);
       terms = refl;
     }

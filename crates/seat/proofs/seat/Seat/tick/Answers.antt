@@ -14,9 +14,9 @@ returns-in_err-ready g c =
     let s = c.args.self.now.state in
     let bs = held c.args.shelf.now in
     let out = c.args.outbox.now in
-    let p = err_from_is_err_and c.from-residual.result c.from-residual.ensures.1 in
+    let p = err_from_is_err_and c.from_residual.result c.from_residual.ensures.1 in
     record {
-      call = refused g.C.Content.kind s bs out (tick c.args.self.now.terms s bs (length out)) c.in_err-ready.field-0.0 p.0 c.from-residual.result
+      call = refused g.C.Content.kind s bs out (tick c.args.self.now.terms s bs (length out)) c.in_err-ready.field-0.0 p.0 c.from_residual.result
           (unready s (length out) c.in_err-ready.field-0.0 _ c.in_err-ready.ensures) p.1 p.2;
       terms = refl;
     }
