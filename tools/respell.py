@@ -124,6 +124,7 @@ def main():
         source |= set(re.findall(r"\b[A-Za-z][A-Za-z0-9]*(?:_[A-Za-z0-9]+)+\b", texts[p]))
     source |= {"in_ok", "in_err", "in_default", "type_inv", "well_formed", "from_residual"}
     source |= {f"overflow_{op}" for op in ("add", "sub", "mul", "shl", "shr", "cast", "step")}
+    source |= {"slice_bounds", "offset_bounds", "nonzero_div", "nonzero_rem"}
     by_dash = {s.replace("_", "-"): s for s in source}
     longest = sorted(by_dash, key=len, reverse=True)
     parts = re.compile(r"(?<![\w])(?:" + "|".join(map(re.escape, longest)) + r")(?![\w])")

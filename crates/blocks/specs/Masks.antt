@@ -1,5 +1,5 @@
 -- Sets of seats as bits, and seals in a row by rising seat.
-use Rattle.std.specs.Prelude.{ℕ, zero, suc, ◌+◌, ◌-◌, ◌*◌, ◌/◌, ◌%◌, ◌^◌, Bool, true, false, cond, ◌&&◌, List, [], ◌∷◌, ◌++◌, Some, None, Option, ◌==◌, nat_lt}
+use Rattle.std.specs.Prelude.{ℕ, zero, suc, ◌+◌, ◌-◌, ◌*◌, ◌/◌, ◌%◌, ◌^◌, Bool, true, false, cond, ◌&&◌, List, [], ◌∷◌, ◌++◌, Some, None, Option, ◌==◌, nat_lt, take, drop}
 
 -- how many seats may go wrong among n
 abbrev pub faults : ℕ → ℕ
@@ -43,3 +43,9 @@ abbrev pub row_kept : Kept → List ℕ
 row_kept [] = []
 row_kept (None ∷ kept) = row_kept kept
 row_kept (Some seal ∷ kept) = seal ++ row_kept kept
+
+-- a row of seals of length S for the seats in a set, from seat i on, k of them, put by seat
+unfoldable pub keep_from : (S mask i k : ℕ) → List ℕ → Kept
+keep_from S mask i zero row = []
+keep_from S mask i (suc k) row =
+    cond (bit mask i) (Some (take S row) ∷ keep_from S mask (suc i) k (drop S row)) (None ∷ keep_from S mask (suc i) k row)

@@ -102,7 +102,7 @@ fn countable<const L: usize, const S: usize, C: Content<L>>(
     block: &Block<C::Record>,
 ) -> bool
     requires { S ≤ 64 }
-    ensures { result ≡ countable C.Content.kind state.now seat block.now }
+    ensures { result ≡ countable C.Content.kind state.entry.now seat block.now }
 {
     state.is_on() & (is_note::<L, C>(&state.round.note, block) & !state.round.votes.has(seat))
 }
@@ -140,7 +140,8 @@ fn certify<const L: usize, const S: usize, C: Content<L>>(
     requires seal { S ≤ 64 }
     requires room { 1024 ≤ length outbox.old }
     ensures does { Does C.Content.kind (Ok (completed state.old (held shelf.old) (certificate_of block.now state.old.round.votes) New)) state.old (held shelf.old) outbox.old (Ok result) state.new (held shelf.new) outbox.new }
-    ensures size { SameCells shelf.new shelf.old }
+    ensures size { size shelf.new ≡ size shelf.old }
+    ensures place { SameCells shelf.new shelf.old }
 {
     let row = state.round.votes.row();
     let mask = state.round.votes.mask();
@@ -175,7 +176,8 @@ pub fn vote<const L: usize, const S: usize, C: Content<L>>(
     requires size { S ≤ 64 }
     requires room { 1024 ≤ length outbox.old }
     ensures does { Does C.Content.kind (vote C.Content.kind terms.now state.old (held shelf.old) (size shelf.old) seat block.now seal.now) state.old (held shelf.old) outbox.old result state.new (held shelf.new) outbox.new }
-    ensures size { SameCells shelf.new shelf.old }
+    ensures size { size shelf.new ≡ size shelf.old }
+    ensures place { SameCells shelf.new shelf.old }
 {
     if !countable::<L, S, C>(state, seat, block) {
         return Ok(Answer::of(Word::Idle));

@@ -26,7 +26,8 @@ fn certificate<const L: usize, const S: usize, C: Content<L>>(
     outbox: &mut [u8],
 ) -> Result<Answer, Refusal>
     ensures does { Does C.Content.kind (take_in C.Content.kind state.old (held shelf.old) (size shelf.old) (plain_certificate c.now) relay) state.old (held shelf.old) outbox.old result state.new (held shelf.new) outbox.new }
-    ensures size { SameCells shelf.new shelf.old }
+    ensures size { size shelf.new ≡ size shelf.old }
+    ensures place { SameCells shelf.new shelf.old }
 {
     match judge_in::<L, S, C>(state, shelf, &c.block)? {
         Verdict::Known => Ok(Answer::of(Word::Idle)),
@@ -77,7 +78,8 @@ pub fn hand_parts<const L: usize, const S: usize, C: Content<L>>(
     requires size { S ≤ 64 }
     requires room { 1024 ≤ length outbox.old }
     ensures does { Does C.Content.kind (hand_parts C.Content.kind terms.now state.old (held shelf.old) (size shelf.old) (plain parts.now)) state.old (held shelf.old) outbox.old result state.new (held shelf.new) outbox.new }
-    ensures cells { SameCells shelf.new shelf.old }
+    ensures cells { size shelf.new ≡ size shelf.old }
+    ensures place { SameCells shelf.new shelf.old }
 {
     match parts {
         Parts::Proposal { block, parent, .. } => {

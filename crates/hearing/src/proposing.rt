@@ -128,7 +128,8 @@ fn take_written<const L: usize, const S: usize, C: Content<L>>(
     requires { 1 + body_size L (plain_certificate c.now) ≤ length outbox.old }
     ensures does { Does C.Content.kind (take_in C.Content.kind state.old (held shelf.old) (size shelf.old) (plain_certificate c.now) (write (Certified (plain_certificate c.now)))) state.old (held shelf.old) outbox.old result state.new (held shelf.new) outbox.new }
     ensures end { IfOk result (λ a. end_of a.certificate ≤ 1 + body_size L (plain_certificate c.now)) }
-    ensures size { SameCells shelf.new shelf.old }
+    ensures size { size shelf.new ≡ size shelf.old }
+    ensures place { SameCells shelf.new shelf.old }
 {
     match judge_in::<L, S, C>(state, shelf, &c.block)? {
         Verdict::Known => Ok(Answer::of(Word::Idle)),
@@ -160,7 +161,8 @@ fn take_parent<const L: usize, const S: usize, C: Content<L>>(
     requires { 1 + parent_size L (plain_parent parent.now) ≤ length outbox.old }
     ensures does { Does C.Content.kind (parent_taken C.Content.kind state.old (held shelf.old) (size shelf.old) (plain_parent parent.now)) state.old (held shelf.old) outbox.old result state.new (held shelf.new) outbox.new }
     ensures end { IfOk result (λ a. end_of a.certificate ≤ 1 + parent_size L (plain_parent parent.now)) }
-    ensures size { SameCells shelf.new shelf.old }
+    ensures size { size shelf.new ≡ size shelf.old }
+    ensures place { SameCells shelf.new shelf.old }
 {
     match parent {
         None => Ok(Answer::of(Word::Idle)),
@@ -179,7 +181,8 @@ pub fn proposal<const L: usize, const S: usize, C: Content<L>>(
 ) -> Result<Answer, Refusal>
     requires { 1 + parent_size L (plain_parent parent.now) + (4 + S) ≤ length outbox.old }
     ensures does { Does C.Content.kind (proposal C.Content.kind terms.now state.old (held shelf.old) (size shelf.old) block.now (plain_parent parent.now)) state.old (held shelf.old) outbox.old result state.new (held shelf.new) outbox.new }
-    ensures size { SameCells shelf.new shelf.old }
+    ensures size { size shelf.new ≡ size shelf.old }
+    ensures place { SameCells shelf.new shelf.old }
 {
     let answer = take_parent::<L, S, C>(state, shelf, parent, outbox)?;
     let view = state.view;

@@ -79,7 +79,8 @@ impl<'a, R: Copy> Shelf<'a, R> {
         ensures answer { result ≡ (if has_room self.old then Ok tt else Err Full) }
         ensures shelf { self.new ≡ (if has_room self.old then with_block self.old block else self.old) }
         ensures blocks { held self.new ≡ (if has_room self.old then held self.old ++ block ∷ [] else held self.old) }
-        ensures size { SameCells self.new self.old }
+        ensures size { size self.new ≡ size self.old }
+        ensures place { SameCells self.new self.old }
         ensures grows { Grown (held self.old) → MayFollow (held self.old) block → Grown (held self.new) }
         ensures stays { ReadsStay (held self.old) (held self.new) }
     {

@@ -1,6 +1,6 @@
 // What a seat keeps.
 ghost use Rattle.std.specs.Prelude.{◌≡◌};
-ghost use Rattle.state.specs.Parts.{is_on, leave, new_round, with_round};
+ghost use Rattle.state.specs.Parts.{is_on, leave, new_round, new_state, with_round};
 ghost use Rattle.state.specs.HandIn.{leaves_by};
 
 use blocks::block::{Block, Rank};
@@ -78,6 +78,36 @@ pub struct State<const S: usize, R> {
 pub const LAST_VIEW: u16 = 65_535;
 
 impl<const S: usize, R: Copy> State<S, R> {
+    // How a seat begins.
+    pub fn new() -> State<S, R>
+        ensures { result ≡ new_state }
+    {
+        State {
+            now: 0,
+            phase: Phase::On,
+            view: 0,
+            turn: 0,
+            lock: None,
+            best: None,
+            round: Round {
+                note: None,
+                votes: SealRow {
+                    by_seat: [None; 15],
+                },
+                offered: false,
+            },
+            spoiled: false,
+            blamed: false,
+            blames: SealRow {
+                by_seat: [None; 15],
+            },
+            progress: 0,
+            committed: None,
+            entered: 0,
+            slip: false,
+        }
+    }
+
     pub fn is_on(&self) -> bool
         ensures { result ≡ is_on self.entry.now.phase }
     {

@@ -199,7 +199,8 @@ pub fn take<const S: usize, R: Copy>(
     ensures height { result ≡ height_of state.entry.now c.now.block }
     ensures state { state.exit.now ≡ shelve (plain_certificate c.now) state.entry.now }
     ensures blocks { held shelf.new ≡ held shelf.old ++ (c.now.block ∷ []) }
-    ensures size { SameCells shelf.new shelf.old }
+    ensures size { size shelf.new ≡ size shelf.old }
+    ensures place { SameCells shelf.new shelf.old }
 {
     match shelf.store(c.block) {
         Ok(()) => state.shelve(c),

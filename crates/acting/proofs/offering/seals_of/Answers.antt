@@ -2,8 +2,8 @@ use Rattle.std.proofs.Common.{◌*◌}
 use Rattle.acting.proofs.Offers.{row_fits, row_is, row-short}
 use Rattle.acting.proofs.offering.seals_of.Goals as goal
 
-pub slice-bounds-result-end : goal.slice-bounds-result-end
-slice-bounds-result-end g c = row_fits c.args.terms.now.seats.n g.row.S c.quorum.result c.args.terms.now.seats.lawful c.requires c.quorum.ensures
+pub slice_bounds-result-end : goal.slice_bounds-result-end
+slice_bounds-result-end g c = row_fits c.args.terms.now.seats.n g.row.S c.quorum.result c.args.terms.now.seats.lawful c.requires c.quorum.ensures
 
 pub returns : goal.returns
 returns g c =

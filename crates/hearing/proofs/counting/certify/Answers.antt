@@ -8,8 +8,8 @@ overflow_mul-seals g c =
     let h : c.count.result * g.row.S ≤ 512 = seals_of_lem c.args.state.now.round.votes c.count.result c.requires.seal c.count.ensures c.requires.count in
     search rules
 
-pub slice-bounds-seals-end : goal.slice-bounds-seals-end
-slice-bounds-seals-end g c = row-holds c.args.state.now.round.votes c.count.result c.row-row.result c.requires.seal c.count.ensures c.requires.count c.row-row.ensures
+pub slice_bounds-seals-end : goal.slice_bounds-seals-end
+slice_bounds-seals-end g c = row-holds c.args.state.now.round.votes c.count.result c.row-row.result c.requires.seal c.count.ensures c.requires.count c.row-row.ensures
 
 pub put_certificate-certificate-requires : goal.put_certificate-certificate-requires
 put_certificate-certificate-requires g c =
@@ -29,4 +29,5 @@ returns g c =
           (certificate_of_lem c.args.state.now.round.votes {R = g.row.C-Record.Denot} c.args.block.now c.mask-mask.result c.count.result c.row-row.result c.mask-mask.ensures c.count.ensures c.row-row.ensures)
           c.put_certificate-certificate.ensures.item c.put_certificate-certificate.ensures.bytes t.height t.state t.blocks;
       size = t.size;
+      place = t.place;
     }

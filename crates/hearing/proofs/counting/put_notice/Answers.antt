@@ -3,8 +3,8 @@ use Rattle.state.specs.Sends.{item_at, put_item, write}
 use Rattle.hearing.proofs.Counts.{notice_of_lem, row-holds, row_room}
 use Rattle.hearing.proofs.counting.put_notice.Goals as goal
 
-pub slice-bounds-put-end : goal.slice-bounds-put-end
-slice-bounds-put-end g c = row-holds c.args.blames.now c.count.result c.row-row.result c.requires.seal c.count.ensures c.requires.count c.row-row.ensures
+pub slice_bounds-put-end : goal.slice_bounds-put-end
+slice_bounds-put-end g c = row-holds c.args.blames.now c.count.result c.row-row.result c.requires.seal c.count.ensures c.requires.count c.row-row.ensures
 
 pub put-requires : goal.put-requires
 put-requires g c =

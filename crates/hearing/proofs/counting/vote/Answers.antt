@@ -32,7 +32,8 @@ returns-in-Err g c = record {
         blocks = refl;
         outbox = refl;
       });
-  size = (refl, refl);
+  size = refl;
+  place = (refl, refl);
 }
 
 pub returns-in-Known : goal.returns-in-Known
@@ -41,7 +42,8 @@ returns-in-Known g c = record {
       (vote-judged g.C.Content.kind c.args.terms.now c.args.state.now (held c.args.shelf.now) (size c.args.shelf.now) c.args.seat c.args.block.now c.args.seal.now
       c.add_vote.new.self c.if-not-countable.ensures c.add_vote.ensures c.if-not-quorate.ensures (Ok Known) (sym (ap (λ v. Ok v) c.in-Known.is) ∙ c.in-Ok.ensures))
       (record { answer = ap (λ a. Ok a) c.of-in-Known.ensures; state = refl; blocks = refl; outbox = refl });
-  size = (refl, refl);
+  size = refl;
+  place = (refl, refl);
 }
 
 pub returns-in-New : goal.returns-in-New
@@ -53,4 +55,5 @@ returns-in-New g c =
           c.add_vote.new.self c.if-not-countable.ensures c.add_vote.ensures c.if-not-quorate.ensures (Ok New) (sym (ap (λ v. Ok v) c.in-New.is) ∙ c.in-Ok.ensures))
           (record { answer = h.answer; state = h.state; blocks = h.blocks; outbox = h.outbox });
       size = c.certify.ensures.size;
+      place = c.certify.ensures.place;
     }

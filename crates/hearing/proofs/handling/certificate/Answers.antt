@@ -22,5 +22,6 @@ returns-in_err-judge_in g c =
       does = does_at g.C.Content.kind (Err c.in_err-judge_in.field-0.0) (take_in g.C.Content.kind c.args.state.now (held c.args.shelf.now) (size c.args.shelf.now) (plain_certificate c.args.c.now) relay)
           (take_in_at g.C.Content.kind c.args.state.now (held c.args.shelf.now) (size c.args.shelf.now) (plain_certificate c.args.c.now) relay (Err c.in_err-judge_in.field-0.0) c.in_err-judge_in.ensures)
           (record { answer = p.1 ∙ ap (λ e. Err e) p.2; state = refl; blocks = refl; outbox = refl });
-      size = (refl, refl);
+      size = refl;
+      place = (refl, refl);
     }

@@ -48,6 +48,7 @@ returns-in-Vote g c =
       does = does_at k (votes k terms s bs cells c.in-Vote.seat c.in-Vote.block c.in-Vote.seal.now) (hand_parts k terms s bs cells (plain c.args.parts.now))
           (ap (λ m. hand_parts k terms s bs cells (plain m)) (sym c.in-Vote.is)) c.vote.ensures.does;
       cells = c.vote.ensures.size;
+      place = c.vote.ensures.place;
     }
 
 pub returns-in-Blame : goal.returns-in-Blame
@@ -60,7 +61,8 @@ returns-in-Blame g c =
     record {
       does = does_at k (blames terms s bs c.in-Blame.seat c.in-Blame.view c.in-Blame.seal.now) (hand_parts k terms s bs cells (plain c.args.parts.now))
           (ap (λ m. hand_parts k terms s bs cells (plain m)) (sym c.in-Blame.is)) c.blame.ensures.does;
-      cells = (refl, refl);
+      cells = refl;
+      place = (refl, refl);
     }
 
 pub returns-in-Certified : goal.returns-in-Certified
@@ -74,6 +76,7 @@ returns-in-Certified g c =
       does = does_at k (take_in k s bs cells (plain_certificate c.in-Certified.c) relay) (hand_parts k terms s bs cells (plain c.args.parts.now))
           (ap (λ m. hand_parts k terms s bs cells (plain m)) (sym c.in-Certified.is)) c.certificate.ensures.does;
       cells = c.certificate.ensures.size;
+      place = c.certificate.ensures.place;
     }
 
 pub returns-in-Notice : goal.returns-in-Notice
@@ -86,5 +89,6 @@ returns-in-Notice g c =
     record {
       does = does_at k (notices s bs c.in-Notice.view) (hand_parts k terms s bs cells (plain c.args.parts.now))
           (ap (λ m. hand_parts k terms s bs cells (plain m)) (sym c.in-Notice.is)) c.notice.ensures.does;
-      cells = (refl, refl);
+      cells = refl;
+      place = (refl, refl);
     }

@@ -24,6 +24,7 @@ returns-in_err-answer g c =
     record {
       does = record { answer = (p.1 ∙ ap (λ e. Err e) p.2) ∙ t.answer; state = t.state; blocks = t.blocks; outbox = t.outbox };
       size = c.in_err-answer.ensures.size;
+      place = c.in_err-answer.ensures.place;
     }
 
 pub react-reaction-requires : goal.react-reaction-requires
@@ -43,4 +44,5 @@ returns g c =
           (proposal_does k terms b c.react-reaction.result (parent_taken k s bs cells parent) (quiet_parent k s bs cells parent) c.in_ok-answer.ensures.does
           c.react-reaction.ensures.reaction c.react-reaction.ensures.state c.respond.ensures.answer c.respond.ensures.outbox);
       size = c.in_ok-answer.ensures.size;
+      place = c.in_ok-answer.ensures.place;
     }

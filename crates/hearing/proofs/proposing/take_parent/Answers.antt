@@ -27,4 +27,5 @@ returns-in-Some g c =
           (ap (λ o. parent_taken k s bs cells (plain_parent o)) (sym c.in-Some.is)) c.take_written.ensures.does;
       end = subst (λ o. IfOk c.take_written.result (λ a. end_of a.certificate ≤ 1 + parent_size g.row.L (plain_parent o))) (sym c.in-Some.is) c.take_written.ensures.end;
       size = c.take_written.ensures.size;
+      place = c.take_written.ensures.place;
     }

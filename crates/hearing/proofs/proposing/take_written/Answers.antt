@@ -25,5 +25,6 @@ returns-in_err-judge_in g c =
           (take_in_at g.C.Content.kind c.args.state.now (held c.args.shelf.now) (size c.args.shelf.now) cert (write (Certified cert)) (Err c.in_err-judge_in.field-0.0) c.in_err-judge_in.ensures)
           (record { answer = p.1 ∙ ap (λ e. Err e) p.2; state = refl; blocks = refl; outbox = refl });
       end = rw p.1 tt;
-      size = (refl, refl);
+      size = refl;
+      place = (refl, refl);
     }

@@ -14,7 +14,8 @@ returns-then-self-size g c =
       answer = sym (cond-false _ _ _ full);
       shelf = sym (cond-false _ _ _ full);
       blocks = sym (cond-false _ _ _ full);
-      size = (refl, refl);
+      size = refl;
+      place = (refl, refl);
       grows = λ grown may. grown;
       stays = λ place h b e. e;
     }
@@ -28,7 +29,8 @@ returns g c =
       answer = sym (cond-true _ _ _ free);
       shelf = c.put.ensures ∙ sym (cond-true _ _ _ free);
       blocks = more ∙ sym (cond-true _ _ _ free);
-      size = (ap size c.put.ensures ∙ size_same c.args.self.now c.args.block, ap (λ s. s.cells.ghost_name) c.put.ensures);
+      size = ap size c.put.ensures ∙ size_same c.args.self.now c.args.block;
+      place = (ap size c.put.ensures ∙ size_same c.args.self.now c.args.block, ap (λ s. s.cells.ghost_name) c.put.ensures);
       grows = λ grown may. subst Grown (sym more) (grown_push (held c.args.self.now) c.args.block grown may);
       stays = subst (ReadsStay (held c.args.self.now)) (sym more) (reads_stay (held c.args.self.now) (c.args.block ∷ []));
     }

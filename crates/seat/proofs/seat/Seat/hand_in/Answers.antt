@@ -68,7 +68,7 @@ returns-in_err-answer g c =
           c.in_ok-ready.ensures m (ap (λ x. Ok (plain x)) c.parts.ensures ∙ c.in_ok-message.ensures.value))
           c.in_err-answer.ensures.does p.1 p.2;
       terms = refl;
-      cells = c.in_err-answer.ensures.cells;
+      cells = c.in_err-answer.ensures.place;
       check = c.in_ok-message.ensures.kept;
     }
 
@@ -88,6 +88,6 @@ returns g c =
           c.in_ok-ready.ensures m (ap (λ x. Ok (plain x)) c.parts.ensures ∙ c.in_ok-message.ensures.value))
           c.in_ok-answer.ensures.does;
       terms = refl;
-      cells = c.in_ok-answer.ensures.cells;
+      cells = c.in_ok-answer.ensures.place;
       check = c.in_ok-message.ensures.kept;
     }
