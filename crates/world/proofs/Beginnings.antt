@@ -1,6 +1,7 @@
 -- A world that begins stands in a lawful setting after no calls.
 use Rattle.std.proofs.Common.{◌≡◌, ℕ, zero, suc, ◌<◌, ◌≤◌, Bool, true, List, [], ◌∷◌, length, get_or, take, is_some, vec_items, sym, refl, ap, ◌∙◌, subst, arith}
 use Rattle.content.specs.Kinds.{Kind}
+use Rattle.content.specs.declared.kind.Content.{Ghosts}
 use Rattle.rota.specs.Limits.{seats_lawful}
 use Rattle.blocks.specs.Masks.{faults}
 use Rattle.state.specs.declared.state.Terms.{Terms}
@@ -12,35 +13,35 @@ use Rattle.world.specs.Making.{Begun, CanBegin, NewAt}
 use Rattle.world.specs.Worlds.{DeskAt, Stands}
 use Rattle.world.specs.declared.desk.Desk.{Desk}
 
-module _ {L S : ℕ} {C R : Type 0} where
+module _ {L S : ℕ} {C R : Type 0} {bound : Ghosts C L R} where
   -- what the seat at a place was made from, and how many cells it has; beyond the last place it does not matter
-  abbrev terms_in : List (Desk L S C R) → ℕ → Terms
+  abbrev terms_in : List (Desk L S C R bound) → ℕ → Terms
   terms_in [] i = record { seats = record { n = 3; lawful = refl }; own = i; delta = 1; patience = 1 }
   terms_in (d ∷ ds) zero = d.seat.terms
   terms_in (d ∷ ds) (suc i) = terms_in ds i
 
-  abbrev cells_in : List (Desk L S C R) → ℕ → ℕ
+  abbrev cells_in : List (Desk L S C R bound) → ℕ → ℕ
   cells_in [] i = 0
   cells_in (d ∷ ds) zero = cells_of d
   cells_in (d ∷ ds) (suc i) = cells_in ds i
 
-  each-terms : (ds : List (Desk L S C R)) (P : ℕ → Terms → Type 0) → ((i : ℕ) (d : Desk L S C R) → i < length ds → get_or ds i d ≡ d → P i d.seat.terms) →
+  each-terms : (ds : List (Desk L S C R bound)) (P : ℕ → Terms → Type 0) → ((i : ℕ) (d : Desk L S C R bound) → i < length ds → get_or ds i d ≡ d → P i d.seat.terms) →
       (i : ℕ) → i < length ds → P i (terms_in ds i)
   each-terms [] P h i l = absurd (omega arith)
   each-terms (d ∷ ds) P h zero l = h zero d l refl
   each-terms (d ∷ ds) P h (suc i) l = each-terms ds (λ j. P (suc j)) (λ j e m g. h (suc j) e (omega arith) g) i (omega arith)
 
-  terms-at : (ds : List (Desk L S C R)) (i : ℕ) (d : Desk L S C R) → i < length ds → get_or ds i d ≡ d → d.seat.terms ≡ terms_in ds i
+  terms-at : (ds : List (Desk L S C R bound)) (i : ℕ) (d : Desk L S C R bound) → i < length ds → get_or ds i d ≡ d → d.seat.terms ≡ terms_in ds i
   terms-at [] i d l g = absurd (omega arith)
   terms-at (x ∷ ds) zero d l g = sym (ap (λ z. z.seat.terms) g)
   terms-at (x ∷ ds) (suc i) d l g = terms-at ds i d (omega arith) g
 
-  cells_at : (ds : List (Desk L S C R)) (i : ℕ) (d : Desk L S C R) → i < length ds → get_or ds i d ≡ d → cells_of d ≡ cells_in ds i
+  cells_at : (ds : List (Desk L S C R bound)) (i : ℕ) (d : Desk L S C R bound) → i < length ds → get_or ds i d ≡ d → cells_of d ≡ cells_in ds i
   cells_at [] i d l g = absurd (omega arith)
   cells_at (x ∷ ds) zero d l g = sym (ap cells_of g)
   cells_at (x ∷ ds) (suc i) d l g = cells_at ds i d (omega arith) g
 
-  module _ (k : Kind L R) (leader : ℕ → ℕ) (accepts : ℕ → List ℕ → List ℕ → Bool) (ds : List (Desk L S C R)) where
+  module _ (k : Kind L R) (leader : ℕ → ℕ) (accepts : ℕ → List ℕ → List ℕ → Bool) (ds : List (Desk L S C R bound)) where
     abbrev beginning : (n delta : ℕ) → (ℕ → Bool) → Setting
     beginning n delta sound = record {
       n = n;

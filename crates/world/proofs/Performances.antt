@@ -3,6 +3,7 @@ use Rattle.std.proofs.Common.{◌≡◌, ℕ, ◌<◌, ◌≤◌, Bool, true, fa
 use Rattle.std.proofs.lemmas.Bool.{cases_eq}
 use Rattle.std.proofs.lemmas.Bool.Decides.{nat_tests}
 use Rattle.content.specs.Kinds.{Kind}
+use Rattle.content.specs.declared.kind.Content.{Ghosts}
 use Rattle.content.specs.declared.refusal.Refusal.{Refusal}
 use Rattle.content.specs.declared.refusal.Refusal.TheVariants.{OutOfLimits}
 use Rattle.blocks.specs.declared.block.Block.{Block}
@@ -22,7 +23,7 @@ use Rattle.world.specs.Performing.{CalledAt, Performed}
 use Rattle.world.specs.Worlds.{DeskAt, Stands, answer_to, box_of, event_at}
 use Rattle.world.specs.declared.desk.Desk.{Desk}
 
-module _ {L S : ℕ} {C R : Type 0} (k : Kind L R) (w : Setting) (i : ℕ) (h : History) (d d' : Desk L S C R) (at : DeskAt k w i h d) (out : List ℕ) where
+module _ {L S : ℕ} {C R : Type 0} {bound : Ghosts C L R} (k : Kind L R) (w : Setting) (i : ℕ) (h : History) (d d' : Desk L S C R bound) (at : DeskAt k w i h d) (out : List ℕ) where
   -- a call that works at the desk as the model says
   as_worked : (c : Call) (r : Result (Outcome S R) Refusal) (out' : List ℕ) (answer : Result Answer Refusal) → r ≡ result S k w (event_at i c) h →
       after k w i c (desk S k w i h) ≡ record {
@@ -89,9 +90,9 @@ module _ {L S : ℕ} {C R : Type 0} (k : Kind L R) (w : Setting) (i : ℕ) (h : 
         };
       }
 
-module _ {L S : ℕ} {C R : Type 0} (k : Kind L R) (w : Setting) (h : History) (e : Event) where
+module _ {L S : ℕ} {C R : Type 0} {bound : Ghosts C L R} (k : Kind L R) (w : Setting) (h : History) (e : Event) where
   -- a desk that is not called stays where it is
-  elsewhere : (j : ℕ) (d : Desk L S C R) → (e.who ≡ j → ⊥) → DeskAt k w j h d → DeskAt k w j (e ∷ h) d
+  elsewhere : (j : ℕ) (d : Desk L S C R bound) → (e.who ≡ j → ⊥) → DeskAt k w j h d → DeskAt k w j (e ∷ h) d
   elsewhere j d ne at =
       let stays = desk-other S k w j e h ne in
       record {
@@ -102,7 +103,7 @@ module _ {L S : ℕ} {C R : Type 0} (k : Kind L R) (w : Setting) (h : History) (
         tidy = at.tidy;
       }
 
-  module _ (ds : List (Desk L S C R)) (stands : Stands k w h ds) (out : List ℕ) where
+  module _ (ds : List (Desk L S C R bound)) (stands : Stands k w h ds) (out : List ℕ) where
     -- a seat that is not there
     pub called_nowhere : length ds ≤ e.who → CalledAt k w (length ds) e h out (Err OutOfLimits) ds out
     called_nowhere far = record {
@@ -114,8 +115,8 @@ module _ {L S : ℕ} {C R : Type 0} (k : Kind L R) (w : Setting) (h : History) (
         outside : {X : Type 0} (x y : X) → cond (ltb e.who (length ds)) x y ≡ y
         outside x y = grind (arith, nat_tests)
 
-    set-stands : (d₁ : Desk L S C R) → e.who < length ds → DeskAt k w e.who (e ∷ h) d₁ →
-        (j : ℕ) (d : Desk L S C R) → (e.who ≡ j) ⊎ (e.who ≡ j → ⊥) → j < length ds → get_or (set ds e.who d₁) j d ≡ d → DeskAt k w j (e ∷ h) d
+    set-stands : (d₁ : Desk L S C R bound) → e.who < length ds → DeskAt k w e.who (e ∷ h) d₁ →
+        (j : ℕ) (d : Desk L S C R bound) → (e.who ≡ j) ⊎ (e.who ≡ j → ⊥) → j < length ds → get_or (set ds e.who d₁) j d ≡ d → DeskAt k w j (e ∷ h) d
     set-stands d₁ near at j d (inl same) l g =
         subst (λ n. DeskAt k w n (e ∷ h) d) same
         (subst (λ x. DeskAt k w e.who (e ∷ h) x) (sym (get_or-set_same ds e.who d₁ d near) ∙ subst (λ n. get_or (set ds e.who d₁) n d ≡ d) (sym same) g) at)
@@ -123,7 +124,7 @@ module _ {L S : ℕ} {C R : Type 0} (k : Kind L R) (w : Setting) (h : History) (
         elsewhere j d ne (stands j d l (sym (get_or-set_other ds e.who j d₁ d (λ q. ne (sym q))) ∙ g))
 
     -- a seat that is there
-    pub called-there : (c : Call) (d₁ : Desk L S C R) (answer : Result Answer Refusal) (out' : List ℕ) → e ≡ event_at e.who c → e.who < length ds →
+    pub called-there : (c : Call) (d₁ : Desk L S C R bound) (answer : Result Answer Refusal) (out' : List ℕ) → e ≡ event_at e.who c → e.who < length ds →
         Performed k w e.who c h out answer d₁ out' → CalledAt k w (length ds) e h out answer (set ds e.who d₁) out'
     called-there c d₁ answer out' is near p =
         let at = subst (λ x. DeskAt k w e.who (x ∷ h) d₁) (sym is) p.stands in

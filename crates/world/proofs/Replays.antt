@@ -1,8 +1,9 @@
 -- One call more, and a list of calls.
-use Rattle.std.proofs.Common.{◌≡◌, ℕ, zero, suc, ◌+◌, ◌-◌, ◌<◌, ◌≤◌, Bool, true, false, cond, not, List, [], ◌∷◌, ◌++◌, length, get_or, take, replicate, is_err, Ok, Err, vec_items, Result, sym, refl, ap, ◌∙◌, subst, add-one, arith, take-suc}
+use Rattle.std.proofs.Common.{◌≡◌, ℕ, zero, suc, ◌+◌, ◌-◌, ◌<◌, ◌≤◌, Bool, true, false, cond, not, List, [], ◌∷◌, ◌++◌, length, get_or, take, replicate, is_err, is_ok as answered_ok, OnOk, Ok, Err, vec_items, Result, sym, refl, ap, ◌∙◌, subst, add-one, arith, take-suc}
 use lib.ListN.{length-replicate}
 use native.Mathlib.Nat.{sub-zero}
 use Rattle.content.specs.Kinds.{Kind}
+use Rattle.content.specs.declared.kind.Content.{Ghosts}
 use Rattle.content.specs.declared.refusal.Refusal.{Refusal}
 use Rattle.state.specs.declared.answer.Answer.{Answer}
 use Rattle.agreement.specs.History.{History}
@@ -19,9 +20,9 @@ pub told_more : (rs : List Reply) (r : Reply) → told_of (rs ++ (r ∷ [])) ≡
 told_more [] r = refl
 told_more (x ∷ rs) r = ap (λ ts. told_by x ∷ ts) (told_more rs r)
 
-module _ {L S : ℕ} {C R : Type 0} (k : Kind L R) (w : Setting) where
+module _ {L S : ℕ} {C R : Type 0} {bound : Ghosts C L R} (k : Kind L R) (w : Setting) where
   -- a call with an outbox of zeros, and its reply kept
-  pub stepped : (c : Call) (h : History) (ds ds' : List (Desk L S C R)) (rs rs' : List Reply) (xs ws : List ℕ) (reply : Reply) →
+  pub stepped : (c : Call) (h : History) (ds ds' : List (Desk L S C R bound)) (rs rs' : List Reply) (xs ws : List ℕ) (reply : Reply) →
       xs ≡ replicate c.room 0 → CalledAt k w (length ds) (event_at c.seat (call_of c.what (length xs))) h xs reply.answer ds' ws →
       vec_items reply.outbox ≡ ws → rs' ≡ rs ++ (reply ∷ []) → Stepped k w c h ds rs (Ok tt) ds' rs'
   stepped c h ds ds' rs rs' xs ws reply zeros called kept more =
@@ -36,6 +37,11 @@ module _ {L S : ℕ} {C R : Type 0} (k : Kind L R) (w : Setting) where
 
 pub is_ok : (b t : Bool) → t ≡ not b → b ≡ false → t ≡ true
 is_ok b t e f = e ∙ ap not f
+
+-- what an answer promises where it is no error
+pub given_ok : {X E P : Type 0} (r : Result X E) → answered_ok r ≡ true → OnOk r P → P
+given_ok (Ok x) e p = p
+given_ok (Err x) e p = absurd (true-false (sym e))
 
 none-taken : {X : Type 0} (n : ℕ) → take {A = X} n [] ≡ []
 none-taken zero = refl
@@ -59,11 +65,11 @@ module _ {L : ℕ} {R : Type 0} (S : ℕ) (k : Kind L R) (w : Setting) (n : ℕ)
 take_more : {X : Type 0} (xs : List X) (i : ℕ) (x : X) → i < length xs → take (i + 1) xs ≡ take i xs ++ (get_or xs i x ∷ [])
 take_more xs i x h = ap (λ n. take n xs) (add-one i) ∙ take-suc xs i x h
 
-module _ {L S : ℕ} {C R : Type 0} (k : Kind L R) (w : Setting) (h : History) (n : ℕ) where
-  pub played-none : (cs : List Call) (ds : List (Desk L S C R)) (rs : List Reply) → rs ≡ [] → Stands k w h ds → Played k w 0 cs h n ds rs
+module _ {L S : ℕ} {C R : Type 0} {bound : Ghosts C L R} (k : Kind L R) (w : Setting) (h : History) (n : ℕ) where
+  pub played-none : (cs : List Call) (ds : List (Desk L S C R bound)) (rs : List Reply) → rs ≡ [] → Stands k w h ds → Played k w 0 cs h n ds rs
   played-none cs ds rs e stands = record { stands = stands; replies = ap told_of e }
 
-  pub played-more : (i : ℕ) (cs : List Call) (c : Call) (ds ds' : List (Desk L S C R)) (rs rs' : List Reply) (r : Result (Unit {0}) Refusal) → i < length cs → get_or cs i c ≡ c → length ds ≡ n →
+  pub played-more : (i : ℕ) (cs : List Call) (c : Call) (ds ds' : List (Desk L S C R bound)) (rs rs' : List Reply) (r : Result (Unit {0}) Refusal) → i < length cs → get_or cs i c ≡ c → length ds ≡ n →
       Played k w i cs h n ds rs → is_err r ≡ false → Stepped k w c (played (take i cs) h) ds rs r ds' rs' → Played k w (i + 1) cs h n ds' rs'
   played-more i cs c ds ds' rs rs' (Err e) l g m p f s = absurd (true-false f)
   played-more i cs c ds ds' rs rs' (Ok u) l g m p f s =
@@ -74,7 +80,7 @@ module _ {L S : ℕ} {C R : Type 0} (k : Kind L R) (w : Setting) (h : History) (
             sym (ap (λ z. told_all S k w n z h) more ∙ tell_more S k w n (take i cs) c h)));
       }
 
-  pub played-same : (i : ℕ) (cs : List Call) (c : Call) (ds ds' : List (Desk L S C R)) (rs rs' : List Reply) (r : Result (Unit {0}) Refusal) →
+  pub played-same : (i : ℕ) (cs : List Call) (c : Call) (ds ds' : List (Desk L S C R bound)) (rs rs' : List Reply) (r : Result (Unit {0}) Refusal) →
       Played k w i cs h n ds rs → is_err r ≡ true → Stepped k w c (played (take i cs) h) ds rs r ds' rs' → Played k w i cs h n ds' rs'
   played-same i cs c ds ds' rs rs' (Ok u) p f s = absurd (true-false (sym f))
   played-same i cs c ds ds' rs rs' (Err e) p f s = record {

@@ -1,5 +1,6 @@
 -- A shelf over cells of which the first so many are blocks.
-use Rattle.std.proofs.Common.{◌≡◌, ℕ, zero, suc, ◌≤◌, true, false, cond, leb, List, [], ◌∷◌, length, take, sym, refl, ap, ◌∙◌, arith, Bor}
+use Rattle.std.proofs.Common.{◌≡◌, ℕ, zero, suc, ◌≤◌, true, false, cond, leb, List, [], ◌∷◌, length, take, sym, refl, ap, ◌∙◌, arith}
+use denote.Ref.{MutBor}
 use Rattle.std.proofs.lemmas.Bool.Decides.{nat_tests}
 use Rattle.blocks.specs.declared.block.Block.{Block}
 use Rattle.shelf.specs.Blocks.{held, size}
@@ -19,10 +20,10 @@ module _ {X : Type 0} where
   taken-few (suc n) (x ∷ xs) = let h = taken-few n xs in omega arith
 
 -- a shelf over these cells, so many of them filled
-abbrev pub shelf_over : {R : Type 0} → Bor (List (Block R)) → ℕ → Shelf R
+abbrev pub shelf_over : {R : Type 0} → MutBor (List (Block R)) → ℕ → Shelf R
 shelf_over cells filled = record { cells = cells; len = filled }
 
-module _ {R : Type 0} (cells : Bor (List (Block R))) where
+module _ {R : Type 0} (cells : MutBor (List (Block R))) where
   can_take_lem : (k : ℕ) → k ≤ length cells.now → can_take (empty_over cells) k ≡ true
   can_take_lem k h = grind (arith, nat_tests)
 

@@ -2,6 +2,7 @@
 use Rattle.std.proofs.Common.{◌≡◌, ℕ, ◌≤◌, Bool, true, false, cond, ltb, List, [], ◌∷◌, ◌++◌, length, take, drop, is_some, Ok, Err, vec_items, Result, Vec, sym, refl, ap, ◌∙◌, subst, arith}
 use Rattle.std.specs.Vec.{with_items}
 use Rattle.content.specs.Kinds.{Kind}
+use Rattle.content.specs.declared.kind.Content.{Ghosts}
 use Rattle.content.specs.declared.refusal.Refusal.{Refusal}
 use Rattle.content.specs.declared.refusal.Refusal.TheVariants.{SlipOut, SmallOutbox}
 use Rattle.blocks.specs.declared.block.Block.{Block}
@@ -25,16 +26,16 @@ module _ {L S : ℕ} {R : Type 0} (k : Kind L R) (room : ℕ) (x : Result (Outco
   pub was_free : (s : State S R) (a : Answer) → Ok a ≡ answer_after k (guarded s room x) → s.slip ≡ false
   was_free s a e = free_if s.slip a e
 
-module _ {L S : ℕ} {C R : Type 0} (k : Kind L R) (d : Desk L S C R) (tidy : Tidy d) (out out' : List ℕ) where
+module _ {L S : ℕ} {C R : Type 0} {bound : Ghosts C L R} (k : Kind L R) (d : Desk L S C R bound) (tidy : Tidy d) (out out' : List ℕ) where
   -- a desk after its seat's call, before the slip is kept
-  pub record Called-at (r : Result (Outcome S R) Refusal) (outcome : Result (Answer × Slip) Refusal) (d₁ : Desk L S C R) : Type 0 where
+  pub record Called-at (r : Result (Outcome S R) Refusal) (outcome : Result (Answer × Slip) Refusal) (d₁ : Desk L S C R bound) : Type 0 where
     pub call : Called k r d.seat.state (blocks_of d) out outcome d₁.seat.state (blocks_of d₁) out'
     pub same_terms : d₁.seat.terms ≡ d.seat.terms
     pub same_cells : cells_of d₁ ≡ cells_of d
     pub same_slip : d₁.slip ≡ d.slip
     pub fits : d₁.filled ≤ length (vec_items d₁.cells)
 
-  refused-works : (r : Result (Outcome S R) Refusal) (e : Refusal) (d₁ d₂ : Desk L S C R) (answer : Result Answer Refusal) → Called-at r (Err e) d₁ →
+  refused-works : (r : Result (Outcome S R) Refusal) (e : Refusal) (d₁ d₂ : Desk L S C R bound) (answer : Result Answer Refusal) → Called-at r (Err e) d₁ →
       answer ≡ Err e → d₂ ≡ d₁ → Worked k r d out answer d₂ out'
   refused-works (Ok o) e d₁ d₂ answer c a m = absurd (err_ok c.call.answer)
   refused-works (Err x) e d₁ d₂ answer c a m = record {
@@ -50,7 +51,7 @@ module _ {L S : ℕ} {C R : Type 0} (k : Kind L R) (d : Desk L S C R) (tidy : Ti
     };
   }
 
-  carried-works : (r : Result (Outcome S R) Refusal) (p : Answer × Slip) (d₁ d₂ : Desk L S C R) (answer : Result Answer Refusal) → d.seat.state.slip ≡ false →
+  carried-works : (r : Result (Outcome S R) Refusal) (p : Answer × Slip) (d₁ d₂ : Desk L S C R bound) (answer : Result Answer Refusal) → d.seat.state.slip ≡ false →
       Called-at r (Ok p) d₁ → Settled (Ok p) d₁ answer d₂ → Worked k r d out answer d₂ out'
   carried-works (Err x) p d₁ d₂ answer free c s = absurd (err_ok (sym c.call.answer))
   carried-works (Ok o) p d₁ d₂ answer free c s =
@@ -72,7 +73,7 @@ module _ {L S : ℕ} {C R : Type 0} (k : Kind L R) (d : Desk L S C R) (tidy : Ti
       }
 
   -- the call, its slip kept
-  pub works : (room : ℕ) (x : Result (Outcome S R) Refusal) (outcome : Result (Answer × Slip) Refusal) (d₁ d₂ : Desk L S C R) (answer : Result Answer Refusal) →
+  pub works : (room : ℕ) (x : Result (Outcome S R) Refusal) (outcome : Result (Answer × Slip) Refusal) (d₁ d₂ : Desk L S C R bound) (answer : Result Answer Refusal) →
       Called-at (guarded d.seat.state room x) outcome d₁ → Settled outcome d₁ answer d₂ → Worked k (guarded d.seat.state room x) d out answer d₂ out'
   works room x (Err e) d₁ d₂ answer c s = refused-works (guarded d.seat.state room x) e d₁ d₂ answer c s.0 s.1
   works room x (Ok p) d₁ d₂ answer c s =
@@ -87,12 +88,12 @@ module _ {X : Type 0} where
   pub refill : {Z : Type 0} (v : Vec X Z) (ws : List X) → length ws ≡ length (vec_items v) → vec_items (with_items v ws) ≡ ws
   refill v ws e = ap (λ n. take n (ws ++ drop (length ws) (vec_items v))) (v.ok.0 ∙ sym e) ∙ take_whole ws (drop (length ws) (vec_items v))
 
-module _ {L S : ℕ} {C R : Type 0} (k : Kind L R) (d : Desk L S C R) (tidy : Tidy d) (out out' : List ℕ) where
+module _ {L S : ℕ} {C R : Type 0} {bound : Ghosts C L R} (k : Kind L R) (d : Desk L S C R bound) (tidy : Tidy d) (out out' : List ℕ) where
   -- a desk whose cells were lent to its seat's call: xs before it, ws after it
-  abbrev pub lent_desk : List (Block R) → ℕ → Seat L S C R → Desk L S C R
+  abbrev pub lent_desk : List (Block R) → ℕ → Seat L S C R bound → Desk L S C R bound
   lent_desk ws n seat = record { cells = with_items d.cells ws; filled = n; slip = d.slip; seat = seat }
 
-  lent-cells : (ws : List (Block R)) (n : ℕ) (seat : Seat L S C R) (outcome : Result (Answer × Slip) Refusal) (f : List (Block R) → ℕ → Result (Outcome S R) Refusal) →
+  lent-cells : (ws : List (Block R)) (n : ℕ) (seat : Seat L S C R bound) (outcome : Result (Answer × Slip) Refusal) (f : List (Block R) → ℕ → Result (Outcome S R) Refusal) →
       length ws ≡ cells_of d →
       Called k (f (blocks_of d) (cells_of d)) d.seat.state (blocks_of d) out outcome seat.state (take n ws) out' →
       n ≤ length ws → seat.terms ≡ d.seat.terms → Called-at k d tidy out out' (f (blocks_of d) (cells_of d)) outcome (lent_desk ws n seat)
@@ -106,7 +107,7 @@ module _ {L S : ℕ} {C R : Type 0} (k : Kind L R) (d : Desk L S C R) (tidy : Ti
         fits = subst (λ zs. n ≤ length zs) (sym m) l;
       }
 
-  pub lent : (xs ws : List (Block R)) (n : ℕ) (seat : Seat L S C R) (outcome : Result (Answer × Slip) Refusal) (f : List (Block R) → ℕ → Result (Outcome S R) Refusal) →
+  pub lent : (xs ws : List (Block R)) (n : ℕ) (seat : Seat L S C R bound) (outcome : Result (Answer × Slip) Refusal) (f : List (Block R) → ℕ → Result (Outcome S R) Refusal) →
       xs ≡ vec_items d.cells → length ws ≡ length xs →
       (d.filled ≤ length xs → Called k (f (take d.filled xs) (length xs)) d.seat.state (take d.filled xs) out outcome seat.state (take n ws) out') →
       n ≤ length ws → seat.terms ≡ d.seat.terms → Called-at k d tidy out out' (f (blocks_of d) (cells_of d)) outcome (lent_desk ws n seat)

@@ -1,6 +1,7 @@
 -- A world of desks as the model sees it: where each desk stands after a history of calls.
 use Rattle.std.specs.Prelude.{◌≡◌, ℕ, ◌<◌, cond, List, [], ◌∷◌, length, replicate, Ok, Err, vec_items, Result, nat_lt, slice_index_or}
 use Rattle.content.specs.Kinds.{Kind}
+use Rattle.content.specs.declared.kind.Content.{Ghosts}
 use Rattle.content.specs.declared.refusal.Refusal.{Refusal}
 use Rattle.content.specs.declared.refusal.Refusal.TheVariants.{OutOfLimits}
 use Rattle.state.specs.Calls.{answer_after, box_after}
@@ -33,9 +34,9 @@ abbrev pub played : List Order → History → History
 played [] h = h
 played (c ∷ cs) h = played cs (event_of c ∷ h)
 
-module _ {L S : ℕ} {C R : Type 0} (k : Kind L R) (w : Setting) where
+module _ {L S : ℕ} {C R : Type 0} {bound : Ghosts C L R} (k : Kind L R) (w : Setting) where
   -- a desk is where the model has the seat of this number after a history
-  pub record DeskAt (i : ℕ) (h : History) (d : Desk L S C R) : Type 0 where
+  pub record DeskAt (i : ℕ) (h : History) (d : Desk L S C R bound) : Type 0 where
     pub terms : d.seat.terms ≡ w.terms i
     pub cells : cells_of d ≡ w.cells i
     pub state : d.seat.state ≡ (desk S k w i h).state
@@ -43,8 +44,8 @@ module _ {L S : ℕ} {C R : Type 0} (k : Kind L R) (w : Setting) where
     pub tidy : Tidy d
 
   -- every desk is: the desk at each place is the seat of that number
-  abbrev pub Stands : History → List (Desk L S C R) → Type 0
-  Stands h ds = (i : ℕ) (d : Desk L S C R) → i < length ds → slice_index_or ds i d ≡ d → DeskAt i h d
+  abbrev pub Stands : History → List (Desk L S C R bound) → Type 0
+  Stands h ds = (i : ℕ) (d : Desk L S C R bound) → i < length ds → slice_index_or ds i d ≡ d → DeskAt i h d
 
 -- what a call answers and leaves in its outbox
 pub record Told : Type 0 where

@@ -1,7 +1,7 @@
 use Rattle.std.proofs.Common.{[], ◌∷◌, ◌++◌, length, is_ok as answered_ok, vec_items, sym, refl, ap, ◌∙◌, arith, length-append}
 use Rattle.std.specs.Vec.{with_items}
 use Rattle.world.specs.declared.call.Reply.{Reply}
-use Rattle.world.proofs.Replays.{is_ok, stepped}
+use Rattle.world.proofs.Replays.{given_ok, is_ok, stepped}
 use Rattle.world.proofs.Works.{refill}
 use Rattle.world.proofs.replaying.step.Goals as goal
 
@@ -9,7 +9,8 @@ pub call_at-answer-requires : goal.call_at-answer-requires
 call_at-answer-requires g c = c.requires-raw.1.1.1.1.1.1
 
 pub push_reserved-requires : goal.push_reserved-requires
-push_reserved-requires g c = omega (arith, c.reserve.ensures.ok (is_ok c.is_err.result (answered_ok c.reserve.result) c.is_err.ensures.negation c.if-is_err.false))
+push_reserved-requires g c =
+    omega (arith, given_ok c.reserve.result (is_ok c.is_err.result (answered_ok c.reserve.result) c.is_err.ensures.negation c.if-is_err.false) c.reserve.ensures.ok)
 
 pub returns : goal.returns
 returns g c =

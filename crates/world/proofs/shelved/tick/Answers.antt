@@ -15,7 +15,7 @@ returns g c =
     let a = c.new-shelf.result in
     let b = c.take_filled.new.self in
     let named = sym (filled_name _ a b n c.new-shelf.ensures.shelf c.take_filled.ensures.shelf) in
-    let end = c.cells·1.given.1.1 named ∙ filled-now _ a b n c.new-shelf.ensures.shelf c.take_filled.ensures.shelf in
+    let end = c.cells-1.given.1.1 named ∙ filled-now _ a b n c.new-shelf.ensures.shelf c.take_filled.ensures.shelf in
     record {
       call = λ within.
           let t = filled_so _ a b n c.new-shelf.ensures.shelf c.take_filled.ensures.shelf within in
