@@ -1,10 +1,9 @@
 -- Lemmas on an edit's bytes and numbers.
-use Rattle.std.proofs.Common.{◌≡◌, ℕ, zero, suc, ◌^◌, ◌<◌, ◌≤◌, Bool, true, false, not, T, eqb, List, [], ◌∷◌, ◌++◌, length, take, replicate, IfOk, Some, Ok, Decides, Option, Result, sym, refl, ap, ◌∙◌, subst, arith}
-use lib.Ieee.{Float, nan, inf, fin, binary64, of_bits, to_bits, le, lt, eq, is_nan, fits}
-use lib.Ieee.Bits.{to_bits-of_bits, of_bits-to_bits}
+use Rattle.std.proofs.Common.{◌≡◌, ℕ, zero, suc, ◌^◌, ◌<◌, ◌≤◌, Bool, true, false, not, T, eqb, List, ◌∷◌, ◌++◌, length, take, replicate, IfOk, Ok, Decides, Option, Result, sym, refl, ap, ◌∙◌, subst, arith}
+use lib.Ieee.{Float, nan, inf, fin, binary64, to_bits, le, lt, eq, is_nan}
+use lib.Ieee.Bits.{to_bits-of_bits}
 use borrow.Rule.Slice.PartMut.{put_mid}
 use Rattle.content.specs.declared.edit.Edit.{Edit}
-use Rattle.content.specs.declared.edit.Edit.TheVariants.{Trim, Gain, Undo, Save}
 use Rattle.content.specs.declared.edit.EditRecord.{EditRecord}
 use Rattle.std.proofs.lemmas.Bool.{false≢true, and_parts, eqb-true, ne_eqb}
 use Rattle.content.specs.declared.refusal.Refusal.{Refusal}
@@ -12,9 +11,8 @@ use Rattle.content.specs.declared.refusal.Refusal.TheVariants.{NoContent}
 use Rattle.content.specs.Edits.{edits, edit_at, edit_shown, stands, value, within, is_edit, named, called, kept, edit_of, record_of, edit_from, edit_bytes}
 use Rattle.std.proofs.lemmas.Result.{IfOk-weaker}
 use Rattle.std.specs.Option.{ok_or}
-use Rattle.std.specs.Bool.{then_some}
 use Rattle.content.specs.Kinds.{Bytes, Lawful, next, ok_if, read_content, write_answer, write_memory}
-use Rattle.content.specs.Numbers.{number, spell, number-spell}
+use Rattle.content.specs.Numbers.{spell, number-spell}
 use Rattle.content.proofs.Contents.{decides_read, read_back, written-front}
 
 -- two numbers written over an array whose first byte is set

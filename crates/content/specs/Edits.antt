@@ -1,5 +1,5 @@
 -- What an edit is: which records are edits, their bytes, and the edit that a record stands for.
-use Rattle.std.specs.Prelude.{◌≡◌, ℕ, suc, ◌≤◌, Bool, true, false, cond, ◌&&◌, ◌||◌, List, [], ◌∷◌, ◌++◌, length, take, drop, Some, Ok, Option, Result, ◌==◌, from_bits, slice_index, to_bits, Float}
+use Rattle.std.specs.Prelude.{◌≡◌, ℕ, suc, ◌≤◌, Bool, false, cond, ◌&&◌, ◌||◌, List, [], ◌∷◌, ◌++◌, length, take, drop, Some, Ok, Option, Result, ◌==◌, from_bits, slice_index, to_bits, Float}
 use Rattle.std.proofs.Common.{sym, ap, ◌∙◌, arith, lit≤, length-drop, take-append-drop, length-take-le, take_all}
 use Rattle.std.specs.Float.{binary64}
 use Rattle.std.specs.Float.Ieee.{le, lt, ne}

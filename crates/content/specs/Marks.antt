@@ -1,5 +1,5 @@
 -- What a chapter mark is: a start in whole seconds and a title, and their bytes.
-use Rattle.std.specs.Prelude.{◌≡◌, ℕ, suc, ◌-◌, ◌≤◌, Bool, true, false, cond, ◌&&◌, List, [], ◌∷◌, ◌++◌, length, take, drop, replicate, Some, Option, Result, ◌==◌, nat_le, nat_lt}
+use Rattle.std.specs.Prelude.{◌≡◌, ℕ, suc, ◌-◌, ◌≤◌, Bool, true, cond, ◌&&◌, List, [], ◌∷◌, ◌++◌, length, take, drop, replicate, Some, Option, Result, ◌==◌, nat_le, nat_lt}
 use Rattle.std.proofs.Common.{sym, ap, ◌∙◌, arith, lit≤, length-drop, take-append-drop, length-take-le, take_all}
 use Rattle.std.specs.Bool.{then_some}
 use Rattle.std.proofs.lemmas.Bool.{eqb-true, and_parts}

@@ -1,4 +1,6 @@
 // Seal checks: which seals stand under which statements of which seats.
+#![tactic(auto)]
+
 pub mod asked;
 mod bytes;
 pub mod check;

@@ -1,4 +1,4 @@
-use Rattle.std.proofs.Common.{◌≡◌, ℕ, ◌+◌, ◌-◌, ◌≤◌, List, ◌++◌, length, take, refl, ap, ◌∙◌, arith, length-append, length-drop}
+use Rattle.std.proofs.Common.{◌≡◌, ℕ, ◌-◌, ◌≤◌, List, ◌++◌, length, take, ap, arith, length-append, length-drop}
 use lib.Seq.{take-append_seam}
 use borrow.Rule.Slice.PartMut.{post_of}
 use Rattle.rota.proofs.posted.roomed.Goals as goal
