@@ -1,15 +1,14 @@
 -- The tick's outcomes, piece by piece, as its code makes them.
-use Rattle.std.proofs.Common.{◌≡◌, ℕ, ◌+◌, ◌-◌, ◌*◌, ◌≤◌, min, Bool, true, false, cond, eqb, leb, List, [], length, is_some, Some, None, Option, sym, refl, ap, ◌∙◌, subst, arith}
+use Rattle.std.proofs.Common.{◌≡◌, ℕ, ◌+◌, ◌-◌, ◌*◌, ◌≤◌, min, Bool, true, false, cond, leb, List, [], length, is_some, Some, None, Option, sym, refl, ap, ◌∙◌, subst, arith}
 use lib.ListN.{length-replicate}
 use Rattle.content.specs.Kinds.{Kind}
-use Rattle.blocks.specs.Ranks.{Place}
 use Rattle.blocks.specs.declared.block.Block.{Block}
 use Rattle.wire.specs.declared.message.Parts.TheVariants.{Vote}
 use Rattle.shelf.specs.Blocks.{top_turn}
 use Rattle.state.specs.HandIn.{idle, last_view, own_blame}
 use Rattle.state.specs.Parts.{with_blamed, with_note, with_now}
 use Rattle.state.specs.Sends.{Outcome, Sending, answer_of, end_of, item_at, outbox_after, put_item, relay, size_of, write, zero_seal}
-use Rattle.state.specs.Tick.{after_blame, after_vote, blame_due, blame_of, blames, enter, entered, entered_at, leaving_tick, on_tick, place_of, round_at, sending, ticked, tick_step, turn_after, vote_due, vote_of, voted_for}
+use Rattle.state.specs.Tick.{after_blame, after_vote, blame_due, blame_of, blames, enter, entered, entered_at, leaving_tick, on_tick, sending, ticked, tick_step, turn_after, vote_due, vote_of, voted_for}
 use Rattle.state.specs.declared.answer.Answer.{Answer}
 use Rattle.state.specs.declared.answer.Item.{Item}
 use Rattle.state.specs.declared.answer.Word.{Word}
@@ -17,7 +16,6 @@ use Rattle.state.specs.declared.answer.Word.TheVariants.{Blamed, Entered, Idle, 
 use Rattle.state.specs.declared.state.Note.{Note}
 use Rattle.state.specs.declared.state.Phase.TheVariants.{On, Leaving}
 use Rattle.state.specs.declared.state.Phase.{Phase}
-use Rattle.state.specs.declared.state.Round.{Round}
 use Rattle.state.specs.declared.state.State.{State}
 use Rattle.state.specs.declared.state.Terms.{Terms}
 

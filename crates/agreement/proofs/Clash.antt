@@ -12,7 +12,7 @@ use Rattle.wire.specs.declared.message.Certificate.{Certificate}
 use Rattle.wire.specs.declared.message.Parts.{Parts}
 use Rattle.wire.specs.declared.message.Parts.TheVariants.{Proposal, Vote, Blame, Certified, Notice}
 use Rattle.shelf.specs.Blocks.{top_turn}
-use Rattle.state.specs.HandIn.{hand_parts, idle, last_view, proposal, proposed, slot_open, taken}
+use Rattle.state.specs.HandIn.{hand_parts, idle, last_view, proposed, slot_open, taken}
 use Rattle.state.specs.Offer.{last_turn, offered_block}
 use Rattle.state.specs.Parts.{is_on, leave, turn_rises, with_best, with_offered}
 use Rattle.state.specs.Sends.{Outcome, Sending, relay, write}

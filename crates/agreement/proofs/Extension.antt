@@ -1,8 +1,8 @@
 -- What is voted for after a commit stands on the committed block.
-use Rattle.std.proofs.Common.{◌≡◌, ℕ, zero, suc, ◌+◌, ◌*◌, ◌<◌, ◌≤◌, true, not, eqb, ◌⊎◌, List, [], ◌∷◌, ◌++◌, Some, None, Ok, sym, refl, ap, ◌∙◌, subst, inl, inr, arith}
+use Rattle.std.proofs.Common.{◌≡◌, ℕ, zero, suc, ◌+◌, ◌*◌, ◌<◌, ◌≤◌, true, eqb, ◌⊎◌, List, [], ◌∷◌, ◌++◌, Some, None, Ok, sym, refl, ap, ◌∙◌, subst, inl, inr, arith}
 use Rattle.std.proofs.lemmas.Bool.{cases_Bool, cases_lt, cond-false, cond-true, eq-eqb, eqb-false, false≢true}
 use Rattle.content.specs.Kinds.{Kind}
-use Rattle.blocks.specs.Ranks.{Place, at_least, below, parent_of}
+use Rattle.blocks.specs.Ranks.{Place, at_least, parent_of}
 use Rattle.blocks.specs.declared.block.Block.{Block}
 use Rattle.blocks.specs.declared.block.Rank.{Rank}
 use Rattle.wire.specs.Lawful.{LawfulBlock}

@@ -1,27 +1,23 @@
 -- The words of the proof, and the facts about one seat that the argument about all seats stands on.
-use Rattle.std.proofs.Common.{◌≡◌, ℕ, suc, ◌+◌, ◌*◌, ◌<◌, ◌≤◌, Bool, true, false, cond, ◌⊎◌, List, [], ◌∷◌, ◌++◌, Some, None, Ok, Err, Option, Result}
+use Rattle.std.proofs.Common.{◌≡◌, ℕ, suc, ◌+◌, ◌*◌, ◌<◌, ◌≤◌, true, ◌⊎◌, List, ◌∷◌, Some, None, Ok, Option}
 use Rattle.content.specs.Kinds.{Kind}
-use Rattle.content.specs.declared.refusal.Refusal.{Refusal}
 use Rattle.content.specs.declared.refusal.Refusal.TheVariants.{Orphan, Rival, Fork}
 use Rattle.blocks.specs.Ranks.{at_least, below, parent_of}
 use Rattle.blocks.specs.declared.block.Block.{Block}
-use Rattle.blocks.specs.declared.block.Rank.{Rank}
 use Rattle.wire.specs.Asked.{asked, judge}
 use Rattle.wire.specs.Lawful.{LawfulBlock}
 use Rattle.wire.specs.Reading.{read_parts}
 use Rattle.wire.specs.declared.message.Certificate.{Certificate}
 use Rattle.wire.specs.declared.message.Parts.{Parts}
-use Rattle.wire.specs.declared.message.Parts.TheVariants.{Proposal, Vote, Certified, Notice}
-use Rattle.shelf.specs.Blocks.{find, read_below}
-use Rattle.state.specs.Parts.{is_on}
-use Rattle.state.specs.Sends.{Outcome, write, zero_seal}
+use Rattle.wire.specs.declared.message.Parts.TheVariants.{Proposal, Certified, Notice}
+use Rattle.shelf.specs.Blocks.{read_below}
 use Rattle.state.specs.declared.state.Note.{Note}
 use Rattle.state.specs.declared.state.Phase.TheVariants.{On, Leaving}
 use Rattle.state.specs.declared.state.State.{State}
 use Rattle.agreement.specs.Committed.{Commits, Takes}
-use Rattle.agreement.specs.History.{Call, Desk, Did, Event, History, Refused, Sends, clock, desk, hand, inbox_of, offer, sent, tick}
+use Rattle.agreement.specs.History.{Call, Did, Event, History, Refused, clock, hand, inbox_of, offer, sent, tick}
 use Rattle.agreement.specs.Laws.{AsCertificate as AsCertificateOf, Earlier, OnShelf, ParentOn as ParentOnOf, SendsSome as SendsSomeOf, Voted as VotedOf, VotesFor as VotesForOf, Was, shelf as shelf_of, stage, state as state_of}
-use Rattle.agreement.specs.Run.{Among, Run}
+use Rattle.agreement.specs.Run.{Run}
 use Rattle.agreement.specs.Setting.{Setting, Sound}
 
 -- the call is a tick

@@ -10,12 +10,12 @@ use Rattle.wire.specs.declared.message.Parts.{Parts}
 use Rattle.wire.specs.declared.message.Parts.TheVariants.{Proposal, Vote, Blame, Certified, Notice}
 use Rattle.shelf.specs.Blocks.{top_turn}
 use Rattle.shelf.proofs.Ancestry.{find-rank}
-use Rattle.state.specs.HandIn.{acceptable, accepted_at, add_seal, adds, at_slot, certificate_of, countable, hand_parts, idle, is_note, last_view, leaves, own_blame, proposed, quorate, slot_open, taken}
+use Rattle.state.specs.HandIn.{acceptable, accepted_at, add_seal, adds, at_slot, certificate_of, countable, hand_parts, idle, is_note, last_view, own_blame, proposed, quorate, slot_open, taken}
 use Rattle.state.specs.Offer.{last_height, last_turn, next_height}
 use Rattle.state.specs.Parts.{is_on, leave, with_blamed, with_blames, with_note, turn_rises, with_best, with_committed, with_now, with_offered, with_slip, with_spoiled, with_votes}
 use Rattle.state.specs.Sends.{Outcome, relay, write}
 use Rattle.state.specs.TakeIn.{better, commits, height_of, here, judge_in, shelve}
-use Rattle.state.specs.Tick.{blames, enter, tick_step, turn_after, voted_for}
+use Rattle.state.specs.Tick.{enter, tick_step, turn_after, voted_for}
 use Rattle.state.specs.declared.answer.Word.TheVariants.{Clash}
 use Rattle.state.specs.declared.state.Note.{Note}
 use Rattle.state.specs.declared.state.Phase.{Phase}

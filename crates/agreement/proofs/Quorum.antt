@@ -1,7 +1,7 @@
 -- A quorum of seats has a sound one.
 use Rattle.std.proofs.Common.{◌≡◌, ℕ, zero, suc, ◌+◌, ◌<◌, ◌≤◌, Bool, true, false, cond, List, [], ◌∷◌, get_or, drop, Some, None, Ok, Err, Result, refl, inl, inr, arith}
 use Rattle.content.specs.declared.refusal.Refusal.{Refusal}
-use Rattle.blocks.specs.Masks.{Kept, bit, count_kept, ones, quorum}
+use Rattle.blocks.specs.Masks.{Kept, bit, count_kept, ones}
 use Rattle.wire.specs.Asked.{Question, judge, row_asked}
 use Rattle.agreement.specs.Run.{Among, Each}
 use Rattle.agreement.specs.Setting.{unsound}

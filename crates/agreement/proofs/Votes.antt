@@ -15,7 +15,7 @@ use Rattle.agreement.specs.History.{Event, History, Own, Said, result}
 use Rattle.agreement.specs.Run.{Each, HonestSeal, Moment, Run}
 use Rattle.agreement.specs.Setting.{Lawful, Setting, Sound, unsound}
 use Rattle.agreement.proofs.Along.{Handed}
-use Rattle.agreement.specs.Laws.{Voted, VotesFor, shelf, state}
+use Rattle.agreement.specs.Laws.{Voted, VotesFor, state}
 use Rattle.agreement.proofs.Moments.{was-here, was-more}
 use Rattle.agreement.proofs.Notes.{block_of, note-fine}
 use Rattle.agreement.proofs.Quorum.{among-each, asked-sound, judged, judged-first, unsound-from, unsound_from}

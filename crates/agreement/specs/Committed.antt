@@ -1,5 +1,5 @@
 -- What a seat has committed.
-use Rattle.std.specs.Prelude.{◌≡◌, ℕ, ◌<◌, List, [], ◌∷◌, ◌++◌}
+use Rattle.std.specs.Prelude.{◌≡◌, ℕ, ◌<◌, [], ◌∷◌, ◌++◌}
 use Rattle.content.specs.Kinds.{Kind}
 use Rattle.blocks.specs.declared.block.Block.{Block}
 use Rattle.agreement.specs.History.{Did, Event, History, Once, desk}

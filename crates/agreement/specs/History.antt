@@ -1,10 +1,9 @@
 -- Histories: the calls at the sound seats, the newest first. A tail of a history is an earlier moment of it.
-use Rattle.std.specs.Prelude.{◌≡◌, ℕ, ◌+◌, ◌<◌, Bool, true, false, cond, ◌⊎◌, List, [], ◌∷◌, ◌++◌, Some, None, Ok, Err, Option, Result, ◌==◌}
+use Rattle.std.specs.Prelude.{◌≡◌, ℕ, cond, ◌⊎◌, List, [], ◌∷◌, Some, None, Ok, Err, Option, Result, ◌==◌}
 use Rattle.content.specs.Kinds.{Kind}
 use Rattle.content.specs.declared.refusal.Refusal.{Refusal}
 use Rattle.blocks.specs.declared.block.Block.{Block}
 use Rattle.wire.specs.Layout.{blame_statement, proposal_statement, vote_statement}
-use Rattle.wire.specs.declared.message.Parts.{Parts}
 use Rattle.wire.specs.declared.message.Parts.TheVariants.{Proposal, Vote, Blame, Certified, Notice}
 use Rattle.state.specs.Calls.{blocks_after, hand_in, offer as offer_call, sent_step, state_after, tick as tick_call}
 use Rattle.state.specs.HandIn.{idle}

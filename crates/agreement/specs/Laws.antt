@@ -7,7 +7,7 @@ use Rattle.wire.specs.declared.message.Certificate.{Certificate}
 use Rattle.wire.specs.declared.message.Parts.{Parts}
 use Rattle.wire.specs.declared.message.Parts.TheVariants.{Certified, Vote}
 use Rattle.state.specs.Parts.{is_on}
-use Rattle.state.specs.Sends.{Outcome, write, zero_seal}
+use Rattle.state.specs.Sends.{write, zero_seal}
 use Rattle.state.specs.declared.state.State.{State}
 use Rattle.agreement.specs.Committed.{Takes}
 use Rattle.agreement.specs.History.{Did, Event, History, Sends, desk}

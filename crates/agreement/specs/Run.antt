@@ -1,8 +1,7 @@
 -- Runs: histories in which the sound seats and the network between them keep to their part.
-use Rattle.std.specs.Prelude.{◌≡◌, ℕ, ◌+◌, ◌<◌, ◌≤◌, Bool, true, false, cond, ◌⊎◌, List, [], ◌∷◌, ◌++◌, Some, None, Ok, Err, Option, Result}
+use Rattle.std.specs.Prelude.{◌≡◌, ℕ, ◌+◌, ◌<◌, ◌≤◌, true, ◌⊎◌, List, [], ◌∷◌, ◌++◌, Ok}
 use Rattle.std.specs.Option.{option_map}
 use Rattle.content.specs.Kinds.{Bytes, Kind}
-use Rattle.content.specs.declared.refusal.Refusal.{Refusal}
 use Rattle.content.specs.declared.refusal.Refusal.TheVariants.{Full, LastTick, SmallOutbox, SlipOut}
 use Rattle.wire.specs.Asked.{Question, asked, judge}
 use Rattle.wire.specs.Reading.{read_parts}

@@ -1,5 +1,5 @@
 -- The seats of one log: what the sound ones share, and what each has of its own.
-use Rattle.std.specs.Prelude.{◌≡◌, ℕ, zero, suc, ◌+◌, ◌<◌, ◌≤◌, Bool, true, false, cond, List}
+use Rattle.std.specs.Prelude.{◌≡◌, ℕ, zero, suc, ◌+◌, ◌<◌, ◌≤◌, Bool, true, cond, List}
 use Rattle.rota.specs.Limits.{seats_lawful}
 use Rattle.blocks.specs.Masks.{faults}
 use Rattle.state.specs.declared.state.Terms.{Terms}

@@ -1,5 +1,5 @@
 -- Agreement, over every run.
-use Rattle.std.specs.Prelude.{◌≡◌, ℕ, List, Ok, Err, Option}
+use Rattle.std.specs.Prelude.{◌≡◌, ℕ, List, Ok, Option}
 use Rattle.content.specs.Kinds.{Kind}
 use Rattle.content.specs.declared.refusal.Refusal.TheVariants.{Orphan, Rival, Fork}
 use Rattle.blocks.specs.declared.block.Block.{Block}

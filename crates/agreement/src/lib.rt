@@ -1,4 +1,6 @@
 // Agreement: over every run of calls, sound seats commit the same blocks.
+#![tactic(auto)]
+
 ghost use Rattle.agreement.specs.Laws.{LawsOfSeats};
 ghost use Rattle.agreement.specs.Theorem.{Agreement};
 ghost use Rattle.agreement.specs.Witness.{Witness};

@@ -1,5 +1,5 @@
 -- Seals by seat, one seat on, and rows in memory of a fixed size, one byte on.
-use Rattle.std.proofs.Common.{◌≡◌, ℕ, zero, suc, ◌+◌, ◌-◌, ◌*◌, ◌%◌, ◌^◌, ◌<◌, ◌≤◌, Bool, true, false, List, [], ◌∷◌, ◌++◌, length, get_or, take, set, replicate, is_some, Some, None, Option, sym, refl, ap, ◌∙◌, append_assoc, append-nil, one-mul, pow-suc, zero-mul, add-one, arith, length-append, length-take-le}
+use Rattle.std.proofs.Common.{◌≡◌, ℕ, zero, suc, ◌+◌, ◌*◌, ◌%◌, ◌^◌, ◌<◌, ◌≤◌, Bool, true, false, List, [], ◌∷◌, ◌++◌, length, get_or, take, set, replicate, is_some, Some, None, Option, sym, refl, ap, ◌∙◌, append_assoc, append-nil, one-mul, pow-suc, zero-mul, add-one, arith, length-append, length-take-le}
 use lib.Pow.{pow-lt}
 use Rattle.std.proofs.lemmas.List.{take_more}
 use Rattle.blocks.specs.Keeping.{padded, Poured}

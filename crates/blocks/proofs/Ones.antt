@@ -1,5 +1,5 @@
 -- Counting the seats of a set, one seat on.
-use Rattle.std.proofs.Common.{◌≡◌, ℕ, zero, suc, ◌+◌, ◌-◌, ◌<◌, ◌≤◌, Bool, true, false, cond, sym, refl, ap, ◌∙◌, add-one, arith}
+use Rattle.std.proofs.Common.{◌≡◌, ℕ, suc, ◌+◌, ◌-◌, ◌<◌, ◌≤◌, true, false, add-one, arith}
 use Rattle.blocks.specs.Masks.{bit, ones}
 
 pub ones_in : (mask i n : ℕ) → i < n → bit mask i ≡ true → ones mask i (n - i) ≡ 1 + ones mask (i + 1) (n - (i + 1))

@@ -1,4 +1,6 @@
 // Blocks and their ranks, the number of seats, sets of seats, and rows of seals.
+#![tactic(auto)]
+
 pub mod block;
 pub mod masks;
 pub mod ranks;

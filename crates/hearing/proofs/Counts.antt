@@ -1,5 +1,5 @@
 -- Votes and blames counted, one outcome at a time.
-use Rattle.std.proofs.Common.{◌≡◌, ℕ, zero, suc, ◌+◌, ◌-◌, ◌*◌, ◌≤◌, Bool, true, false, cond, not, ◌&&◌, eqb, List, [], ◌∷◌, ◌++◌, length, get_or, take, set, is_some, Some, None, Ok, Err, Option, Result, sym, refl, ap, ◌∙◌, mul-le-mul_left, arith, length-take, set-set}
+use Rattle.std.proofs.Common.{◌≡◌, ℕ, zero, suc, ◌-◌, ◌*◌, ◌≤◌, Bool, true, false, cond, not, ◌&&◌, eqb, List, [], ◌∷◌, ◌++◌, length, get_or, take, set, is_some, Some, None, Ok, Err, Option, Result, sym, refl, ap, ◌∙◌, mul-le-mul_left, arith, length-take, set-set}
 use lib.Seq.{set-get_or}
 use native.Mathlib.Nat.{sub-zero}
 use Rattle.std.proofs.lemmas.Bool.Decides.{nat_tests}
@@ -17,9 +17,8 @@ use Rattle.wire.specs.declared.message.Parts.TheVariants.{Certified, Notice}
 use Rattle.state.specs.Does.{Does}
 use Rattle.state.specs.HandIn.{add_seal, blame, blame_counts, carried, certificate_of, completed, countable, counted, counts_blame, drop_seal, has_seal, idle, is_note, last_view, leaves, notice_of, quorate, row_of, vote, vote_counts}
 use Rattle.state.specs.Parts.{is_on, with_blames, with_votes}
-use Rattle.state.specs.Sends.{Outcome, item_at, put_item, write}
+use Rattle.state.specs.Sends.{item_at, put_item, write}
 use Rattle.state.specs.TakeIn.{height_of, judge_in, shelve}
-use Rattle.state.specs.declared.answer.Answer.{Answer}
 use Rattle.state.specs.declared.answer.Item.{Item}
 use Rattle.state.specs.declared.answer.Word.TheVariants.{Certified as SaysCertified}
 use Rattle.state.specs.declared.state.State.{State}

@@ -1,5 +1,5 @@
 -- That what a lawful message makes the seat write has room in an outbox of 1,024 bytes.
-use Rattle.std.proofs.Common.{◌≡◌, ℕ, ◌+◌, ◌-◌, ◌*◌, ◌/◌, ◌<◌, ◌≤◌, true, List, length, Some, None, Option, mul-le-mul, arith}
+use Rattle.std.proofs.Common.{◌≡◌, ℕ, ◌*◌, ◌≤◌, true, List, length, Some, None, Option, mul-le-mul, arith}
 use Rattle.std.proofs.lemmas.Bool.Decides.{nat_tests}
 use Rattle.content.specs.Kinds.{Kind}
 use Rattle.rota.specs.Limits.{seats_lawful}

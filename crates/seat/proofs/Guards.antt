@@ -1,8 +1,8 @@
 -- What the calls ask first, and what is left where they refuse.
-use Rattle.std.proofs.Common.{◌≡◌, ℕ, ◌+◌, ◌<◌, ◌≤◌, Bool, true, false, cond, ltb, leb, Ok, Err, Result, sym, refl, ap, ◌∙◌, arith}
+use Rattle.std.proofs.Common.{◌≡◌, ℕ, ◌<◌, ◌≤◌, false, Ok, Err, Result, arith}
 use Rattle.std.proofs.lemmas.Bool.Decides.{nat_tests}
 use Rattle.content.specs.declared.refusal.Refusal.{Refusal}
-use Rattle.content.specs.declared.refusal.Refusal.TheVariants.{SlipOut, SmallOutbox}
+use Rattle.content.specs.declared.refusal.Refusal.TheVariants.{SmallOutbox}
 use Rattle.state.specs.Calls.{guarded}
 use Rattle.state.specs.declared.state.State.{State}
 use Rattle.seat.specs.Called.{ready}

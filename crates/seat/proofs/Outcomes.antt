@@ -1,5 +1,5 @@
 -- Calls that are refused, and calls that are carried out, as the model says.
-use Rattle.std.proofs.Common.{◌≡◌, ℕ, ◌+◌, ◌-◌, ◌*◌, ◌<◌, ◌≤◌, min, Bool, true, false, cond, not, eqb, ltb, leb, List, [], Some, None, Ok, Err, Option, Result, sym, refl, ap, ◌∙◌, arith}
+use Rattle.std.proofs.Common.{◌≡◌, ℕ, ◌+◌, ◌-◌, ◌*◌, ◌<◌, ◌≤◌, min, Bool, true, false, cond, not, eqb, leb, List, [], Some, None, Ok, Err, Option, Result, sym, refl, ap, ◌∙◌, arith}
 use Rattle.std.proofs.lemmas.Bool.Decides.{nat_tests}
 use Rattle.content.specs.Kinds.{Kind, read_content}
 use Rattle.content.specs.declared.refusal.Refusal.{Refusal}
@@ -9,7 +9,7 @@ use Rattle.wire.specs.Reading.{next}
 use Rattle.wire.specs.declared.message.Parts.{Parts}
 use Rattle.wire.specs.Asked.{opened}
 use Rattle.shelf.specs.Blocks.{top_turn}
-use Rattle.state.specs.Calls.{answer_after, blocks_after, box_after, guarded, hand_in, last_tick_of, offer, state_after, tick}
+use Rattle.state.specs.Calls.{answer_after, blocks_after, box_after, hand_in, last_tick_of, offer, state_after, tick}
 use Rattle.state.specs.Does.{Does}
 use Rattle.state.specs.HandIn.{hand_parts, idle, last_view}
 use Rattle.state.specs.Offer.{can_carry, may_offer, no_place, offer_step, offers, too_soon}

@@ -1,4 +1,6 @@
 // The shelf: the certified blocks of one seat, over cells that the caller lends.
+#![tactic(auto)]
+
 ghost use Rattle.std.specs.Prelude.{◌≡◌, ◌<◌, not, List, [], ◌∷◌, ◌++◌, length, take, if◌then◌else◌, Ok, Err};
 ghost use Rattle.std.specs.Option.{option_map};
 ghost use Rattle.content.specs.declared.refusal.Refusal.TheVariants.{Full, OutOfLimits};

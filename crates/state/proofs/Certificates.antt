@@ -1,5 +1,5 @@
 -- Taking in a certificate, as its code does it.
-use Rattle.std.proofs.Common.{◌≡◌, ℕ, ◌+◌, min, Bool, true, false, cond, not, ltb, List, length, Some, None, Ok, Err, Option, Result, sym, refl, ap, ◌∙◌, arith}
+use Rattle.std.proofs.Common.{◌≡◌, ℕ, ◌+◌, min, Bool, true, false, cond, not, ltb, List, length, Some, None, Ok, Err, Option, Result, sym, refl, arith}
 use Rattle.std.proofs.lemmas.Bool.Decides.{nat_tests}
 use Rattle.content.specs.Kinds.{Kind}
 use Rattle.content.specs.declared.refusal.Refusal.{Refusal}
@@ -9,7 +9,7 @@ use Rattle.blocks.specs.declared.block.Block.{Block}
 use Rattle.wire.specs.declared.message.Certificate.{Certificate}
 use Rattle.shelf.specs.Blocks.{find}
 use Rattle.state.specs.Parts.{turn_rises, with_best, with_committed}
-use Rattle.state.specs.TakeIn.{better, commits, extends, height_of, here, higher_than, judge_found, judge_in, judge_new, keep_best, parent_there, shelve}
+use Rattle.state.specs.TakeIn.{better, commits, extends, here, higher_than, judge_found, judge_in, judge_new, keep_best, parent_there, shelve}
 use Rattle.state.specs.declared.state.Best.{Best}
 use Rattle.state.specs.declared.state.State.{State}
 use Rattle.state.specs.declared.taking.Verdict.{Verdict}

@@ -1,5 +1,5 @@
 -- The four calls: the whole outcome of each, for every state of seat, shelf and outbox.
-use Rattle.std.specs.Prelude.{ℕ, Bool, true, false, cond, List, length, Ok, Err, Result, nat_le, nat_lt}
+use Rattle.std.specs.Prelude.{ℕ, Bool, true, false, cond, List, Ok, Err, Result, nat_le, nat_lt}
 use Rattle.content.specs.Kinds.{Kind}
 use Rattle.content.specs.declared.refusal.Refusal.{Refusal}
 use Rattle.content.specs.declared.refusal.Refusal.TheVariants.{SlipOut, SmallOutbox, LastTick}

@@ -1,5 +1,5 @@
 -- A message handed in, by its parts.
-use Rattle.std.specs.Prelude.{ℕ, ◌+◌, ◌-◌, ◌*◌, Bool, true, false, cond, not, ◌&&◌, ◌||◌, List, [], ◌∷◌, ◌++◌, take, is_some, Some, None, Ok, Err, Option, Result, ◌==◌, nat_lt, slice_index_or, slice_set}
+use Rattle.std.specs.Prelude.{ℕ, ◌+◌, ◌*◌, Bool, true, false, cond, not, ◌&&◌, ◌||◌, List, [], ◌∷◌, ◌++◌, take, is_some, Some, None, Ok, Err, Option, Result, ◌==◌, nat_lt, slice_index_or, slice_set}
 use Rattle.content.specs.Kinds.{Kind}
 use Rattle.content.specs.declared.refusal.Refusal.{Refusal}
 use Rattle.content.specs.declared.refusal.Refusal.TheVariants.{LastView}
@@ -12,7 +12,7 @@ use Rattle.wire.specs.declared.message.Certificate.{Certificate}
 use Rattle.wire.specs.declared.message.Parts.{Parts}
 use Rattle.wire.specs.declared.message.Parts.TheVariants.{Proposal, Vote, Blame, Certified, Notice}
 use Rattle.state.specs.Parts.{is_on, leave, with_blamed, with_blames, with_note, with_spoiled, with_votes}
-use Rattle.state.specs.Sends.{Outcome, Sending, Sends, nothing, relay, write, zero_seal}
+use Rattle.state.specs.Sends.{Outcome, Sending, nothing, relay, write, zero_seal}
 use Rattle.state.specs.TakeIn.{height_of, judge_in, shelve}
 use Rattle.state.specs.declared.answer.Word.{Word}
 use Rattle.state.specs.declared.answer.Word.TheVariants.{Idle, Noted, Accepted, Clash, Certified as SaysCertified, Counted, Left}

@@ -1,5 +1,5 @@
 -- An offer of the seat's own entry.
-use Rattle.std.specs.Prelude.{ℕ, ◌+◌, ◌-◌, ◌*◌, Bool, true, false, cond, not, ◌&&◌, ◌||◌, List, take, Some, None, Ok, Err, Option, Result, ◌==◌, nat_lt}
+use Rattle.std.specs.Prelude.{ℕ, ◌+◌, ◌-◌, ◌*◌, Bool, true, cond, not, ◌&&◌, ◌||◌, List, take, Some, None, Ok, Err, Option, Result, ◌==◌, nat_lt}
 use Rattle.content.specs.Kinds.{Kind, read_content}
 use Rattle.content.specs.declared.refusal.Refusal.{Refusal}
 use Rattle.content.specs.declared.refusal.Refusal.TheVariants.{NotLeader, OfferLeaving, OfferSpoiled, OfferedAlready, NoPlaceLeft, OfferTooSoon, NoLawfulParent}
@@ -8,10 +8,9 @@ use Rattle.blocks.specs.declared.block.Block.{Block}
 use Rattle.blocks.specs.declared.block.Rank.{Rank}
 use Rattle.wire.specs.Reading.{next}
 use Rattle.wire.specs.declared.message.Certificate.{Certificate}
-use Rattle.wire.specs.declared.message.Parts.{Parts}
 use Rattle.wire.specs.declared.message.Parts.TheVariants.{Proposal}
 use Rattle.state.specs.Parts.{is_on, with_offered}
-use Rattle.state.specs.Sends.{Outcome, Sends, write, zero_seal}
+use Rattle.state.specs.Sends.{Outcome, write, zero_seal}
 use Rattle.state.specs.declared.answer.Word.TheVariants.{Offered}
 use Rattle.state.specs.declared.state.Best.{Best}
 use Rattle.state.specs.declared.state.State.{State}

@@ -1,7 +1,6 @@
 -- The state of a seat with one part changed.
-use Rattle.std.specs.Prelude.{ℕ, Bool, true, false, cond, List, replicate, Some, None, Option}
+use Rattle.std.specs.Prelude.{ℕ, Bool, true, false, replicate, Some, None, Option}
 use Rattle.blocks.specs.declared.block.Block.{Block}
-use Rattle.blocks.specs.declared.block.Rank.{Rank}
 use Rattle.blocks.specs.declared.rows.SealRow.{SealRow}
 use Rattle.state.specs.declared.state.Best.{Best}
 use Rattle.state.specs.declared.state.Note.{Note}

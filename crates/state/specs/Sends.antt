@@ -1,13 +1,11 @@
 -- What a call sends: at most a certificate, then a message relayed or of the seat's own, then a blame; each is the whole
 -- message handed in, or a message that the call writes into the outbox.
-use Rattle.std.specs.Prelude.{ℕ, ◌+◌, Bool, true, false, cond, List, replicate, Some, None, Option}
+use Rattle.std.specs.Prelude.{ℕ, ◌+◌, List, replicate, Some, None, Option}
 use Rattle.content.specs.Kinds.{Kind}
 use Rattle.blocks.specs.declared.block.Block.{Block}
 use Rattle.wire.specs.Layout.{message_bytes}
 use Rattle.wire.specs.Writing.{message_size, placed}
-use Rattle.wire.specs.declared.message.Certificate.{Certificate}
 use Rattle.wire.specs.declared.message.Parts.{Parts}
-use Rattle.wire.specs.declared.message.Parts.TheVariants.{Proposal, Vote, Blame, Certified, Notice}
 use Rattle.state.specs.declared.answer.Answer.{Answer}
 use Rattle.state.specs.declared.answer.Item.{Item}
 use Rattle.state.specs.declared.answer.Item.TheVariants.{Inbox, Outbox}

@@ -6,7 +6,7 @@ use Rattle.wire.specs.declared.message.Parts.TheVariants.{Vote}
 use Rattle.shelf.specs.Blocks.{top_turn}
 use Rattle.state.specs.HandIn.{idle, last_view, own_blame}
 use Rattle.state.specs.Parts.{with_blamed, with_note, with_now}
-use Rattle.state.specs.Sends.{Outcome, Sending, Sends, nothing, write, zero_seal}
+use Rattle.state.specs.Sends.{Outcome, Sending, write, zero_seal}
 use Rattle.state.specs.declared.answer.Word.{Word}
 use Rattle.state.specs.declared.answer.Word.TheVariants.{Idle, Entered, Voted, Blamed}
 use Rattle.state.specs.declared.state.Best.{Best}

@@ -1,5 +1,5 @@
 -- How long messages are.
-use Rattle.std.proofs.Common.{◌≡◌, ℕ, ◌+◌, ◌-◌, ◌*◌, ◌%◌, ◌≤◌, true, ◌&&◌, eqb, leb, List, [], ◌++◌, length, Some, None, ap, ◌∙◌, mul-le-mul, arith, length-append}
+use Rattle.std.proofs.Common.{◌≡◌, ℕ, ◌+◌, ◌*◌, ◌%◌, ◌≤◌, true, ◌&&◌, eqb, leb, List, [], ◌++◌, length, Some, None, ap, ◌∙◌, mul-le-mul, arith, length-append}
 use Rattle.std.proofs.lemmas.Bool.{and_parts, leb-true}
 use Rattle.content.specs.Kinds.{Kind}
 use Rattle.content.specs.Numbers.{spell}

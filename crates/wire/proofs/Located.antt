@@ -1,10 +1,9 @@
 -- Where the bodies of the statements lie in the bytes of a message.
-use Rattle.std.proofs.Common.{◌≡◌, ℕ, zero, suc, ◌+◌, ◌-◌, ◌*◌, ◌<◌, ◌≤◌, List, [], ◌∷◌, ◌++◌, length, take, drop, Some, None, Option, sym, refl, ap, ◌∙◌, append_assoc, arith, length-append, take_at, drop_at}
+use Rattle.std.proofs.Common.{◌≡◌, ℕ, ◌+◌, ◌≤◌, List, [], ◌∷◌, ◌++◌, length, take, drop, Some, Option, refl, ap, ◌∙◌, append_assoc, arith, length-append, take_at, drop_at}
 use Rattle.content.specs.Kinds.{Kind}
-use Rattle.content.specs.Numbers.{spell}
 use Rattle.content.proofs.Numbers.{length-spell}
 use Rattle.wire.specs.Lawful.{LawfulBlock, LawfulParts}
-use Rattle.wire.specs.Layout.{block_bytes, body_bytes, parent_bytes, message_bytes}
+use Rattle.wire.specs.Layout.{block_bytes, body_bytes, message_bytes}
 use Rattle.wire.specs.Meaning.{Slice, plain, plain_certificate, plain_parent}
 use Rattle.blocks.specs.declared.block.Block.{Block}
 use Rattle.wire.specs.declared.message.Certificate.{Certificate}

@@ -1,7 +1,6 @@
 -- Asking about a row of seals, one seat on.
-use Rattle.std.proofs.Common.{◌≡◌, ℕ, zero, suc, ◌+◌, ◌-◌, ◌*◌, ◌<◌, ◌≤◌, Bool, true, false, cond, List, [], ◌∷◌, length, take, drop, Ok, Err, Result, sym, refl, ap, ◌∙◌, add-mul, one-mul, add-one, arith, length-drop}
+use Rattle.std.proofs.Common.{◌≡◌, ℕ, suc, ◌+◌, ◌-◌, ◌*◌, ◌<◌, ◌≤◌, Bool, true, false, cond, List, [], ◌∷◌, length, take, drop, Ok, Err, Result, sym, refl, ap, ◌∙◌, add-mul, add-one, arith, length-drop}
 use Rattle.content.specs.declared.refusal.Refusal.{Refusal}
-use Rattle.content.specs.declared.refusal.Refusal.TheVariants.{BadSeal}
 use Rattle.wire.specs.Asked.{Question, asked_one, row_asked, judge}
 use Rattle.blocks.specs.Masks.{bit, ones}
 use Rattle.blocks.proofs.Ones.{ones_in, ones-out}

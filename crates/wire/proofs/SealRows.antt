@@ -1,9 +1,8 @@
 -- A row of seals, one seal on, and how long it is.
-use Rattle.std.proofs.Common.{◌≡◌, ℕ, zero, suc, ◌+◌, ◌-◌, ◌*◌, ◌<◌, ◌≤◌, Bool, true, false, cond, ltb, List, [], ◌∷◌, length, take, drop, Ok, Err, Result, sym, refl, ap, ◌∙◌, arith, length-drop}
+use Rattle.std.proofs.Common.{◌≡◌, ℕ, suc, ◌+◌, ◌-◌, ◌*◌, ◌<◌, ◌≤◌, List, length, take, Ok, Err, sym, arith, length-drop}
 use Rattle.std.proofs.lemmas.Bool.Decides.{nat_tests}
 use Rattle.content.specs.declared.refusal.Refusal.{Refusal}
-use Rattle.content.specs.declared.refusal.Refusal.TheVariants.{Short}
-use Rattle.wire.specs.Reading.{Read, next, peel, peel_seals, seals_fit}
+use Rattle.wire.specs.Reading.{Read, peel, peel_seals, seals_fit}
 use Rattle.wire.proofs.Bodies.{fit_back}
 
 -- a seal that does not fit ends the row

@@ -1,5 +1,5 @@
 -- One field after another: what was peeled off lies in front of the rest, and what lies in front is peeled off.
-use Rattle.std.proofs.Common.{◌≡◌, ℕ, zero, suc, ◌+◌, ◌-◌, ◌^◌, ◌<◌, Bool, true, false, cond, ltb, List, [], ◌∷◌, ◌++◌, length, take, drop, Ok, Err, Result, refl, ap, ◌∙◌, subst, arith, length-append, take-append-drop, length-take-le, get_or-drop, take_at, drop_at}
+use Rattle.std.proofs.Common.{◌≡◌, ℕ, zero, suc, ◌+◌, ◌^◌, ◌<◌, Bool, true, false, cond, ltb, List, [], ◌∷◌, ◌++◌, length, take, drop, Ok, Err, Result, refl, ap, ◌∙◌, subst, arith, length-append, take-append-drop, length-take-le, get_or-drop, take_at, drop_at}
 use Rattle.std.proofs.lemmas.Bool.{ltb-false, le-ltb}
 use Rattle.content.specs.Kinds.{Bytes}
 use Rattle.content.specs.Numbers.{number, spell}

@@ -1,12 +1,11 @@
 -- What the seal check is asked about a message: a seat, a statement and a seal for each of its seals, in their order.
-use Rattle.std.specs.Prelude.{ℕ, zero, suc, Bool, true, false, cond, List, [], ◌∷◌, ◌++◌, take, drop, Some, None, Ok, Err, Option, Result}
+use Rattle.std.specs.Prelude.{ℕ, zero, suc, Bool, cond, List, [], ◌∷◌, take, drop, Some, None, Ok, Err, Option, Result}
 use Rattle.content.specs.Kinds.{Kind}
 use Rattle.content.specs.declared.refusal.Refusal.{Refusal}
 use Rattle.content.specs.declared.refusal.Refusal.TheVariants.{BadSeal}
 use Rattle.wire.specs.Layout.{proposal_statement, vote_statement, blame_statement}
 use Rattle.blocks.specs.Masks.{bit}
 use Rattle.wire.specs.Reading.{next, read_parts}
-use Rattle.blocks.specs.declared.block.Block.{Block}
 use Rattle.wire.specs.declared.message.Certificate.{Certificate}
 use Rattle.wire.specs.declared.message.Parts.{Parts}
 use Rattle.wire.specs.declared.message.Parts.TheVariants.{Proposal, Vote, Blame, Certified, Notice}

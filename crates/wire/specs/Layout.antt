@@ -1,5 +1,5 @@
 -- The bytes of blocks, statements and messages. All numbers lie low byte first.
-use Rattle.std.specs.Prelude.{ℕ, ◌+◌, ◌-◌, ◌*◌, Bool, true, false, cond, ◌&&◌, List, [], ◌∷◌, ◌++◌, Some, None, Option, ◌==◌, nat_lt}
+use Rattle.std.specs.Prelude.{ℕ, ◌+◌, Bool, false, cond, ◌&&◌, List, [], ◌∷◌, ◌++◌, Some, None, Option, ◌==◌, nat_lt}
 use Rattle.content.specs.Kinds.{Kind}
 use Rattle.content.specs.Numbers.{spell}
 use Rattle.blocks.specs.declared.block.Block.{Block}

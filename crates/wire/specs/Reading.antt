@@ -1,6 +1,6 @@
 -- Reading a message, as a function on lists of bytes. Fields are read in the order in which they lie; `at` is the
 -- offset of what is left.
-use Rattle.std.specs.Prelude.{ℕ, zero, suc, ◌+◌, ◌-◌, ◌*◌, Bool, true, false, cond, ◌&&◌, List, [], ◌∷◌, length, take, drop, Some, None, Ok, Err, Option, Result, ◌==◌, nat_lt}
+use Rattle.std.specs.Prelude.{ℕ, zero, suc, ◌+◌, ◌-◌, ◌*◌, Bool, cond, ◌&&◌, List, [], ◌∷◌, length, take, drop, Some, None, Ok, Err, Option, Result, ◌==◌, nat_lt}
 use Rattle.content.specs.Kinds.{Kind}
 use Rattle.content.specs.Numbers.{number}
 use Rattle.content.specs.declared.refusal.Refusal.{Refusal}

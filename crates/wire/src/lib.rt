@@ -1,4 +1,6 @@
 // The messages between seats: their bytes, read and written.
+#![tactic(auto)]
+
 pub mod asking;
 pub(crate) mod fields;
 pub mod laws;

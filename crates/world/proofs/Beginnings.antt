@@ -2,15 +2,13 @@
 use Rattle.std.proofs.Common.{◌≡◌, ℕ, zero, suc, ◌<◌, ◌≤◌, Bool, true, List, [], ◌∷◌, length, get_or, take, is_some, vec_items, sym, refl, ap, ◌∙◌, subst, arith}
 use Rattle.content.specs.Kinds.{Kind}
 use Rattle.content.specs.declared.kind.Content.{Ghosts}
-use Rattle.rota.specs.Limits.{seats_lawful}
 use Rattle.blocks.specs.Masks.{faults}
 use Rattle.state.specs.declared.state.Terms.{Terms}
-use Rattle.agreement.specs.History.{desk}
 use Rattle.agreement.specs.Setting.{Lawful, Setting, unsound}
 use Rattle.agreement.proofs.Steps.{desk-none}
-use Rattle.world.specs.Desks.{blocks_of, cells_of}
-use Rattle.world.specs.Making.{Begun, CanBegin, NewAt}
-use Rattle.world.specs.Worlds.{DeskAt, Stands}
+use Rattle.world.specs.Desks.{cells_of}
+use Rattle.world.specs.Making.{Begun, CanBegin}
+use Rattle.world.specs.Worlds.{Stands}
 use Rattle.world.specs.declared.desk.Desk.{Desk}
 
 module _ {L S : ℕ} {C R : Type 0} {bound : Ghosts C L R} where

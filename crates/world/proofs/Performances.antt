@@ -1,26 +1,23 @@
 -- From what a call does at a desk to the model's history.
-use Rattle.std.proofs.Common.{◌≡◌, ℕ, ◌<◌, ◌≤◌, Bool, true, false, cond, ltb, ◌⊎◌, List, [], ◌∷◌, length, get_or, set, Ok, Err, Result, sym, refl, ap, ◌∙◌, subst, inl, inr, arith, length-set, get_or-set_other, get_or-set_same}
+use Rattle.std.proofs.Common.{◌≡◌, ℕ, ◌<◌, ◌≤◌, Bool, cond, ltb, ◌⊎◌, List, ◌∷◌, length, get_or, set, Ok, Err, Result, sym, refl, ap, ◌∙◌, subst, inl, inr, arith, length-set, get_or-set_other, get_or-set_same}
 use Rattle.std.proofs.lemmas.Bool.{cases_eq}
 use Rattle.std.proofs.lemmas.Bool.Decides.{nat_tests}
 use Rattle.content.specs.Kinds.{Kind}
 use Rattle.content.specs.declared.kind.Content.{Ghosts}
 use Rattle.content.specs.declared.refusal.Refusal.{Refusal}
 use Rattle.content.specs.declared.refusal.Refusal.TheVariants.{OutOfLimits}
-use Rattle.blocks.specs.declared.block.Block.{Block}
 use Rattle.state.specs.Answers.{saying}
 use Rattle.state.specs.Calls.{answer_after, blocks_after, box_after, hand_in, state_after}
 use Rattle.state.specs.Calls.{offer as offer_call, tick as tick_call}
 use Rattle.state.specs.Sends.{Outcome}
 use Rattle.state.specs.declared.answer.Answer.{Answer}
 use Rattle.state.specs.declared.answer.Word.TheVariants.{Idle}
-use Rattle.state.specs.declared.state.State.{State}
-use Rattle.state.specs.declared.state.Terms.{Terms}
-use Rattle.agreement.specs.History.{Call, Desk as Model, Event, History, after, desk, hand, offer, result, sent, tick}
+use Rattle.agreement.specs.History.{Call, Event, History, after, desk, hand, offer, result, sent, tick}
 use Rattle.agreement.specs.Setting.{Setting}
 use Rattle.agreement.proofs.Steps.{desk-mine, desk-other}
 use Rattle.world.specs.Desks.{Freed, Worked, blocks_of, cells_of}
 use Rattle.world.specs.Performing.{CalledAt, Performed}
-use Rattle.world.specs.Worlds.{DeskAt, Stands, answer_to, box_of, event_at}
+use Rattle.world.specs.Worlds.{DeskAt, Stands, event_at}
 use Rattle.world.specs.declared.desk.Desk.{Desk}
 
 module _ {L S : ℕ} {C R : Type 0} {bound : Ghosts C L R} (k : Kind L R) (w : Setting) (i : ℕ) (h : History) (d d' : Desk L S C R bound) (at : DeskAt k w i h d) (out : List ℕ) where

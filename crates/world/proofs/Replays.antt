@@ -1,17 +1,16 @@
 -- One call more, and a list of calls.
-use Rattle.std.proofs.Common.{◌≡◌, ℕ, zero, suc, ◌+◌, ◌-◌, ◌<◌, ◌≤◌, Bool, true, false, cond, not, List, [], ◌∷◌, ◌++◌, length, get_or, take, replicate, is_err, is_ok as answered_ok, OnOk, Ok, Err, vec_items, Result, sym, refl, ap, ◌∙◌, subst, add-one, arith, take-suc}
+use Rattle.std.proofs.Common.{◌≡◌, ℕ, zero, suc, ◌+◌, ◌-◌, ◌<◌, Bool, true, false, not, List, [], ◌∷◌, ◌++◌, length, get_or, take, replicate, is_err, is_ok as answered_ok, OnOk, Ok, Err, vec_items, Result, sym, refl, ap, ◌∙◌, subst, add-one, arith, take-suc}
 use lib.ListN.{length-replicate}
 use native.Mathlib.Nat.{sub-zero}
 use Rattle.content.specs.Kinds.{Kind}
 use Rattle.content.specs.declared.kind.Content.{Ghosts}
 use Rattle.content.specs.declared.refusal.Refusal.{Refusal}
-use Rattle.state.specs.declared.answer.Answer.{Answer}
 use Rattle.agreement.specs.History.{History}
 use Rattle.agreement.specs.Setting.{Setting}
 use Rattle.world.specs.Performing.{CalledAt}
 use Rattle.agreement.proofs.Basics.{true-false}
 use Rattle.world.specs.Replaying.{Counted, Played, Stepped}
-use Rattle.world.specs.Worlds.{Stands, Told, answer_to, call_of, event_at, event_of, played, tells, told_all, told_by, told_of}
+use Rattle.world.specs.Worlds.{Stands, answer_to, call_of, event_at, event_of, played, tells, told_all, told_by, told_of}
 use Rattle.world.specs.declared.call.Call.{Call}
 use Rattle.world.specs.declared.call.Reply.{Reply}
 use Rattle.world.specs.declared.desk.Desk.{Desk}

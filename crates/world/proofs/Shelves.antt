@@ -1,9 +1,8 @@
 -- A shelf over cells of which the first so many are blocks.
-use Rattle.std.proofs.Common.{◌≡◌, ℕ, zero, suc, ◌≤◌, true, false, cond, leb, List, [], ◌∷◌, length, take, sym, refl, ap, ◌∙◌, arith}
+use Rattle.std.proofs.Common.{◌≡◌, ℕ, zero, suc, ◌≤◌, true, false, cond, List, [], ◌∷◌, length, take, refl, ap, ◌∙◌, arith}
 use denote.Ref.{MutBor}
 use Rattle.std.proofs.lemmas.Bool.Decides.{nat_tests}
 use Rattle.blocks.specs.declared.block.Block.{Block}
-use Rattle.shelf.specs.Blocks.{held, size}
 use Rattle.shelf.specs.Cells.{can_take, empty_over, with_filled}
 use Rattle.shelf.specs.declared.Shelf.{Shelf}
 

@@ -1,16 +1,16 @@
 -- From a seat's call and its settling to what it does at a desk.
-use Rattle.std.proofs.Common.{◌≡◌, ℕ, ◌≤◌, Bool, true, false, cond, ltb, List, [], ◌∷◌, ◌++◌, length, take, drop, is_some, Ok, Err, vec_items, Result, Vec, sym, refl, ap, ◌∙◌, subst, arith}
+use Rattle.std.proofs.Common.{◌≡◌, ℕ, ◌≤◌, Bool, true, false, cond, ltb, List, [], ◌∷◌, ◌++◌, length, take, drop, is_some, Ok, Err, vec_items, Result, Vec, sym, refl, ap, ◌∙◌, subst}
 use Rattle.std.specs.Vec.{with_items}
 use Rattle.content.specs.Kinds.{Kind}
 use Rattle.content.specs.declared.kind.Content.{Ghosts}
 use Rattle.content.specs.declared.refusal.Refusal.{Refusal}
 use Rattle.content.specs.declared.refusal.Refusal.TheVariants.{SlipOut, SmallOutbox}
 use Rattle.blocks.specs.declared.block.Block.{Block}
-use Rattle.state.specs.Calls.{answer_after, blocks_after, box_after, guarded, state_after}
+use Rattle.state.specs.Calls.{answer_after, guarded}
 use Rattle.state.specs.Sends.{Outcome}
 use Rattle.state.specs.declared.answer.Answer.{Answer}
 use Rattle.state.specs.declared.state.State.{State}
-use Rattle.seat.specs.Called.{Called, answered}
+use Rattle.seat.specs.Called.{Called}
 use Rattle.seat.specs.declared.seat.Seat.{Seat}
 use Rattle.seat.specs.declared.slip.Slip.{Slip}
 use Rattle.agreement.proofs.Basics.{err_ok}

@@ -1,5 +1,5 @@
 -- What a desk holds, and that a call at it does what the model says.
-use Rattle.std.specs.Prelude.{◌≡◌, ℕ, ◌≤◌, true, false, List, length, take, is_some, Ok, Err, vec_items, vec_len, Result}
+use Rattle.std.specs.Prelude.{◌≡◌, ℕ, ◌≤◌, true, false, List, length, take, is_some, Ok, Err, vec_items, Result}
 use Rattle.content.specs.Kinds.{Kind}
 use Rattle.content.specs.declared.kind.Content.{Ghosts}
 use Rattle.content.specs.declared.refusal.Refusal.{Refusal}

@@ -1,11 +1,10 @@
 -- A world of desks as the model sees it: where each desk stands after a history of calls.
-use Rattle.std.specs.Prelude.{◌≡◌, ℕ, ◌<◌, cond, List, [], ◌∷◌, length, replicate, Ok, Err, vec_items, Result, nat_lt, slice_index_or}
+use Rattle.std.specs.Prelude.{◌≡◌, ℕ, ◌<◌, cond, List, [], ◌∷◌, length, replicate, Err, vec_items, Result, nat_lt, slice_index_or}
 use Rattle.content.specs.Kinds.{Kind}
 use Rattle.content.specs.declared.kind.Content.{Ghosts}
 use Rattle.content.specs.declared.refusal.Refusal.{Refusal}
 use Rattle.content.specs.declared.refusal.Refusal.TheVariants.{OutOfLimits}
 use Rattle.state.specs.Calls.{answer_after, box_after}
-use Rattle.state.specs.Sends.{Outcome}
 use Rattle.state.specs.declared.answer.Answer.{Answer}
 use Rattle.agreement.specs.History.{Call, Event, History, desk, hand, offer, result, sent, tick}
 use Rattle.agreement.specs.Setting.{Setting}

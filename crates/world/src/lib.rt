@@ -1,4 +1,6 @@
 // A world of seats, each with its own shelf, and the call that replays a list of calls in it.
+#![tactic(auto)]
+
 pub mod call;
 pub mod desk;
 pub mod making;

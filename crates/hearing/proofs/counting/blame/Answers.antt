@@ -1,4 +1,4 @@
-use Rattle.std.proofs.Common.{None, Ok, Option, sym, refl, ap, ◌∙◌, rules}
+use Rattle.std.proofs.Common.{None, Ok, Option, refl, ap, rules}
 use Rattle.shelf.specs.Blocks.{held}
 use Rattle.state.specs.HandIn.{counted, idle, leaves, notice_of}
 use Rattle.state.specs.HandIn.{blame as blamed}

@@ -1,4 +1,4 @@
-use Rattle.std.proofs.Common.{◌+◌, ◌<◌, ◌≤◌, length, sym, refl, ap, subst, arith, rules}
+use Rattle.std.proofs.Common.{◌<◌, ◌≤◌, length, sym, refl, ap, subst, arith, rules}
 use Rattle.wire.specs.Lawful.{LawfulParts}
 use Rattle.wire.specs.Meaning.{plain, plain_certificate, plain_parent}
 use Rattle.wire.specs.Writing.{parent_size}

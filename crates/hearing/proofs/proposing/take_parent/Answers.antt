@@ -1,4 +1,4 @@
-use Rattle.std.proofs.Common.{◌+◌, ◌≤◌, length, IfOk, Some, sym, ap, subst, rules}
+use Rattle.std.proofs.Common.{◌+◌, ◌≤◌, length, IfOk, sym, ap, subst, rules}
 use Rattle.wire.specs.Meaning.{plain_certificate, plain_parent}
 use Rattle.wire.specs.Writing.{body_size, parent_size}
 use Rattle.wire.specs.declared.message.Parts.TheVariants.{Certified}

@@ -1,4 +1,4 @@
-use Rattle.std.proofs.Common.{◌≡◌, ◌+◌, ◌-◌, ◌≤◌, length}
+use Rattle.std.proofs.Common.{◌≡◌, ◌+◌, ◌-◌, length}
 use Rattle.wire.specs.Reading.{seals_fit}
 use Rattle.wire.proofs.fields.behind_seals.Given as goal
 

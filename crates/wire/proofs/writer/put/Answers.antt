@@ -1,4 +1,4 @@
-use Rattle.std.proofs.Common.{◌-◌, refl, arith}
+use Rattle.std.proofs.Common.{refl, arith}
 use Rattle.wire.proofs.Places.{placed_mid}
 use Rattle.wire.proofs.writer.put.Goals as goal
 

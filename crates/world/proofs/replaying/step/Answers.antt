@@ -1,4 +1,4 @@
-use Rattle.std.proofs.Common.{[], ◌∷◌, ◌++◌, length, is_ok as answered_ok, vec_items, sym, refl, ap, ◌∙◌, arith, length-append}
+use Rattle.std.proofs.Common.{[], ◌∷◌, ◌++◌, length, is_ok as answered_ok, vec_items, refl, ap, ◌∙◌, arith, length-append}
 use Rattle.std.specs.Vec.{with_items}
 use Rattle.world.specs.declared.call.Reply.{Reply}
 use Rattle.world.proofs.Replays.{given_ok, is_ok, stepped}

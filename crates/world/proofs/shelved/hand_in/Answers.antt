@@ -1,4 +1,4 @@
-use Rattle.std.proofs.Common.{◌≤◌, length, take, sym, refl, ap, ◌∙◌, subst}
+use Rattle.std.proofs.Common.{◌≤◌, length, take, sym, ap, ◌∙◌, subst}
 use Rattle.shelf.specs.Blocks.{held, size}
 use Rattle.state.specs.Calls.{hand_in}
 use Rattle.seat.specs.Called.{Called}

@@ -1,4 +1,4 @@
-use Rattle.std.proofs.Common.{length, take, sym, refl, ap, ◌∙◌, subst}
+use Rattle.std.proofs.Common.{length, take, sym, ◌∙◌, subst}
 use Rattle.shelf.specs.Blocks.{held}
 use Rattle.state.specs.Calls.{tick}
 use Rattle.seat.specs.Called.{Called}

@@ -1,10 +1,9 @@
-use Rattle.std.proofs.Common.{length, Ok, Err, sym, refl, ap, ◌∙◌, subst, le_trans, lt_of_le_of_lt, le-add_left}
+use Rattle.std.proofs.Common.{length, Ok, sym, refl, ap, ◌∙◌, subst, le_trans, lt_of_le_of_lt, le-add_left}
 use prog.Align.{up-ge}
 use Rattle.std.proofs.lemmas.Result.{err_from_is_err_and}
 use Rattle.wire.specs.Lawful.{LawfulParts}
 use Rattle.wire.specs.Meaning.{plain}
 use Rattle.shelf.specs.Blocks.{held, size}
-use Rattle.state.specs.Calls.{hand_in}
 use Rattle.state.specs.HandIn.{hand_parts}
 use Rattle.seat.proofs.Guards.{enough, unready}
 use Rattle.seat.proofs.Outcomes.{carried-by, hand-opened, hand_unopened, refused, refused-by}

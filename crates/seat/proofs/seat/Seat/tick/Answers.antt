@@ -1,4 +1,4 @@
-use Rattle.std.proofs.Common.{length, Ok, Err, sym, refl, le_trans, lt_of_le_of_lt, le-add_left}
+use Rattle.std.proofs.Common.{length, Err, refl, le_trans, lt_of_le_of_lt, le-add_left}
 use prog.Align.{up-ge}
 use Rattle.std.proofs.lemmas.Result.{err_from_is_err_and}
 use Rattle.shelf.specs.Blocks.{held}

@@ -1,4 +1,4 @@
-use Rattle.std.proofs.Common.{is_some, sym, refl, ap, ◌∙◌, le_trans, lt_of_le_of_lt, le-add_left}
+use Rattle.std.proofs.Common.{is_some, refl, ap, ◌∙◌, le_trans, lt_of_le_of_lt, le-add_left}
 use prog.Align.{up-ge}
 use Rattle.agreement.proofs.Basics.{true-false}
 use Rattle.world.proofs.desk.Desk.keep.Goals as goal

@@ -1,4 +1,4 @@
-use Rattle.std.proofs.Common.{◌≤◌, length, sym, refl, ap, ◌∙◌, subst, le_trans, lt_of_le_of_lt, le-add_left}
+use Rattle.std.proofs.Common.{◌≤◌, length, sym, ◌∙◌, subst, le_trans, lt_of_le_of_lt, le-add_left}
 use prog.Align.{up-ge}
 use Rattle.state.specs.Calls.{tick}
 use Rattle.world.proofs.Works.{lent, works}
