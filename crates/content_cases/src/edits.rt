@@ -1,5 +1,5 @@
 // Edits at every bound.
-use content::edit::{Edit, EditRecord};
+use content::edit::Edit;
 use content::kind::{Content, copy_content};
 use content::refusal::Refusal;
 use std::num::f64_from_bits_with_nan;
@@ -183,9 +183,9 @@ fn edits_come_back(rt: HostRuntime) -> Result<(), Fail> {
         assert_eq!(rt; edit.record()?.edit()?, edit);
     }
     let trim = Edit::Trim(1.0, 2.0).record()?;
-    assert!(rt; EditContent::same(&trim, &Edit::Trim(1.0, 2.0).record()?));
-    assert!(rt; !EditContent::same(&trim, &Edit::Trim(1.0, 3.0).record()?));
-    assert!(rt; !EditContent::same(&trim, &Edit::Gain(1.0, 2.0).record()?));
+    assert!(rt; Edit::same(&trim, &Edit::Trim(1.0, 2.0).record()?));
+    assert!(rt; !Edit::same(&trim, &Edit::Trim(1.0, 3.0).record()?));
+    assert!(rt; !Edit::same(&trim, &Edit::Gain(1.0, 2.0).record()?));
     Ok(())
 }
 

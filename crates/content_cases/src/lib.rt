@@ -1,4 +1,6 @@
 // Cases of contents and refusals at every bound, as tests.
+#![tactic(auto)]
+
 #[cfg(test)]
 mod edits;
 #[cfg(test)]

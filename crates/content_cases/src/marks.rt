@@ -72,8 +72,8 @@ fn other_lengths_are_refused(rt: HostRuntime) {
 fn marks_are_made_from_text(rt: HostRuntime) -> Result<(), Fail> {
     let mark = ChapterMark::new(86_400, b"abcdefghijklmnopqrstuvwx")?;
     assert_eq!(rt; mark.start(), 86_400);
-    assert_eq!(rt; mark.title(), b"abcdefghijklmnopqrstuvwx");
-    assert_eq!(rt; ChapterMark::new(7, b"~")?.title(), b"~");
+    assert_eq!(rt; mark.title(), b"abcdefghijklmnopqrstuvwx".as_slice());
+    assert_eq!(rt; ChapterMark::new(7, b"~")?.title(), b"~".as_slice());
     assert_eq!(rt;
         ChapterMark::new(86_401, b"a").err(),
         Some(Refusal::NoContent { at: 0 })
@@ -96,8 +96,8 @@ fn marks_are_made_from_text(rt: HostRuntime) -> Result<(), Fail> {
 #[test]
 fn marks_are_compared_by_their_bytes(rt: HostRuntime) -> Result<(), Fail> {
     let mark = ChapterMark::new(1, b"ab")?;
-    assert!(rt; MarkContent::same(&mark, &ChapterMark::new(1, b"ab")?));
-    assert!(rt; !MarkContent::same(&mark, &ChapterMark::new(2, b"ab")?));
-    assert!(rt; !MarkContent::same(&mark, &ChapterMark::new(1, b"a")?));
+    assert!(rt; ChapterMark::same(&mark, &ChapterMark::new(1, b"ab")?));
+    assert!(rt; !ChapterMark::same(&mark, &ChapterMark::new(2, b"ab")?));
+    assert!(rt; !ChapterMark::same(&mark, &ChapterMark::new(1, b"a")?));
     Ok(())
 }

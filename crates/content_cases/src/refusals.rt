@@ -50,15 +50,15 @@ fn other_refusals_have_no_detail(rt: HostRuntime) {
 fn refusals_say_what_went_wrong(rt: HostRuntime) -> Result<(), Fail> {
     let heap = rt.alloc();
     assert_eq!(rt;
-        Refusal::Trailing { at: 17 }.to_string(heap)?,
+        Refusal::Trailing { at: 17 }.to_string(heap)?.as_str(),
         "bytes are left over after the last field, at byte 17"
     );
     assert_eq!(rt;
-        Refusal::BadSeal { seat: 2 }.to_string(heap)?,
+        Refusal::BadSeal { seat: 2 }.to_string(heap)?.as_str(),
         "the seal check says no to a seal of seat 2"
     );
     assert_eq!(rt;
-        Refusal::SlipOut.to_string(heap)?,
+        Refusal::SlipOut.to_string(heap)?.as_str(),
         "the slip of the last call is not spent"
     );
     Ok(())

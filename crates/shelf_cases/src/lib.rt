@@ -1,3 +1,5 @@
 // Cases of shelves, with both kinds of content, as tests.
+#![tactic(auto)]
+
 #[cfg(test)]
 mod cases;

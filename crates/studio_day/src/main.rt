@@ -1,4 +1,6 @@
 // A day in a podcast studio: what the log's parts do, in plain sentences.
+#![tactic(auto)]
+
 mod contents;
 mod hex;
 mod leading;

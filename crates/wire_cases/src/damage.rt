@@ -71,32 +71,14 @@ fn a_proposal_with_a_damaged_number_is_refused(rt: HostRuntime) {
             (3, 0, BLOCK),
             (3, 2, BLOCK),
             (4, 1, BLOCK),
-        ],
-    );
-    damage(
-        &rt,
-        &PROPOSAL,
-        &[
             (5, 0, BLOCK),
             (5, 1, BLOCK),
             (5, 3, NOT_PARENT),
             (8, 1, NOT_PARENT),
-        ],
-    );
-    damage(
-        &rt,
-        &PROPOSAL,
-        &[
             (9, 0, BLOCK),
             (10, 1, BLOCK),
             (11, 1, BLOCK),
             (12, 1, BLOCK),
-        ],
-    );
-    damage(
-        &rt,
-        &PROPOSAL,
-        &[
             (13, 4, Refusal::NoContent { at: 13 }),
             (29, 1, Refusal::NoContent { at: 13 }),
         ],
@@ -113,27 +95,13 @@ fn a_proposal_with_a_damaged_parent_is_refused(rt: HostRuntime) {
             (39, 1, NOT_PARENT),
             (40, 1, PARENT),
             (41, 1, PARENT),
-        ],
-    );
-    damage(
-        &rt,
-        &PROPOSAL,
-        &[(42, 0, PARENT), (42, 2, NOT_PARENT), (45, 1, NOT_PARENT)],
-    );
-    damage(
-        &rt,
-        &PROPOSAL,
-        &[
+            (42, 0, PARENT),
+            (42, 2, NOT_PARENT),
+            (45, 1, NOT_PARENT),
             (46, 1, PARENT),
             (47, 1, PARENT),
             (48, 1, PARENT),
             (49, 1, PARENT),
-        ],
-    );
-    damage(
-        &rt,
-        &PROPOSAL,
-        &[
             (50, 9, Refusal::NoContent { at: 50 }),
             (68, 1, Refusal::BadLayout { at: 67 }),
         ],
