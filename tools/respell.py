@@ -16,7 +16,7 @@ TOKEN = re.compile(r"[^\W\d][\w'\-]*")
 DEFINED = re.compile(r"^\s*(?:pub )?(?:abbrev |unfoldable )?(?:pub )?((?:[^\W\d][\w'\-]*)(?: [^\W\d][\w'\-]*)*) :(?= |$)(.*)$", re.M)
 KEPT = {"ofBits", "toBits", "isNan"}
 # names whose plain respelling is a word of the kit's or says too little
-CHOSEN = {"isOk": "answered_ok"}
+CHOSEN = {"isOk": "answered_ok", "from-le-16": "from_le_16", "from-le-32": "from_le_32", "from-le-64": "from_le_64"}
 
 
 def read(path):
@@ -91,7 +91,9 @@ def main():
         for i in range(1, len(parts)):
             two = parts[i - 1] in words and parts[i] in words and n not in fields
             new += ("-" if two else "_") + parts[i]
-        dashed[n] = new
+        if "-" in new and new.replace("-", "_") in words:
+            new = new.replace("-", "_") + "_lem"
+        dashed[n] = CHOSEN.get(n, new)
     table, said = {}, []
     rust_fns = set()
     rust_words = set()

@@ -48,12 +48,12 @@ pub parent_new : {R : Type 0} (bs : List (Block R)) (c : Certificate R (List ℕ
 parent_new bs c = (c.block, on-last c.block bs, refl, refl)
 
 -- taking a note leaves the slot as it is
-pub at-note : {S : ℕ} {R : Type 0} (f : Phase) (s : State S R) (n : Option (Note R)) (b : Block R) → at_slot f (with_note n s) b ≡ at_slot f s b
-at-note On s n b = refl
-at-note (Leaving since) s n b = refl
+pub at_note_lem : {S : ℕ} {R : Type 0} (f : Phase) (s : State S R) (n : Option (Note R)) (b : Block R) → at_slot f (with_note n s) b ≡ at_slot f s b
+at_note_lem On s n b = refl
+at_note_lem (Leaving since) s n b = refl
 
 pub slot_noted : {S : ℕ} {R : Type 0} (s : State S R) (n : Option (Note R)) (b : Block R) → slot_open s b ≡ true → slot_open (with_note n s) b ≡ true
-slot_noted s n b e = ap (λ (x : Bool). not s.spoiled && x) (at-note s.phase s n b) ∙ e
+slot_noted s n b e = ap (λ (x : Bool). not s.spoiled && x) (at_note_lem s.phase s n b) ∙ e
 
 -- taking a certificate in: a new best; where the seat is on in its view, a new turn; and perhaps a commit
 pub shelve_cases : {S : ℕ} {R : Type 0} (P : State S R → Type 0) (c : Certificate R (List ℕ)) (s : State S R) →

@@ -36,7 +36,7 @@ use Rattle.agreement.proofs.Cases.{NoteFor, proposed_cases}
 use Rattle.agreement.specs.Laws.{OnShelf, shelf, stage, state}
 use Rattle.agreement.proofs.Facts.{GoodMessage, NoteIs, OnIn, Primed}
 use Rattle.agreement.proofs.Invariant.{ordered}
-use Rattle.agreement.proofs.Keeps.{ParentIn, at-note, parent_known, parent_new, proposed-leaves, shelve_cases}
+use Rattle.agreement.proofs.Keeps.{ParentIn, at_note_lem, parent_known, parent_new, proposed-leaves, shelve_cases}
 use Rattle.agreement.proofs.Notes.{block_of, note-fine}
 use Rattle.agreement.proofs.Shelved.{turns-below}
 
@@ -187,13 +187,13 @@ module _ {L : ℕ} {R : Type 0} (S : ℕ) (k : Kind L R) (w : Setting) (law : La
 
       taking : (note : Note R) (rest : Word) → slot_open o.state b ≡ true → NoteFor k b o.state.round.note note → (rest ≡ Noted) ⊎ (rest ≡ o.word) → adds o rest None None (with_note (Some note) o.state) ≡ final → Primed b (with_note (Some note) o.state)
       taking note rest slot fit _ it =
-          primed-at b (with_note (Some note) o.state) (at-note o.state.phase o.state (Some note) b ∙ (and_parts (not o.state.spoiled) _ slot).1)
+          primed-at b (with_note (Some note) o.state) (at_note_lem o.state.phase o.state (Some note) b ∙ (and_parts (not o.state.spoiled) _ slot).1)
           (inr (is_b (adds o rest None None (with_note (Some note) o.state)) note it refl fit))
 
       passing : (note : Note R) → slot_open o.state b ≡ true → NoteFor k b o.state.round.note note → acceptable o.state note.block ≡ true → is_some note.accepted ≡ false → adds o Accepted (Some relay) None (with_note (Some (accepted_at o.state.now note)) o.state) ≡ final →
           Primed b (with_note (Some (accepted_at o.state.now note)) o.state)
       passing note slot fit _ _ it =
-          primed-at b (with_note (Some (accepted_at o.state.now note)) o.state) (at-note o.state.phase o.state (Some (accepted_at o.state.now note)) b ∙ (and_parts (not o.state.spoiled) _ slot).1)
+          primed-at b (with_note (Some (accepted_at o.state.now note)) o.state) (at_note_lem o.state.phase o.state (Some (accepted_at o.state.now note)) b ∙ (and_parts (not o.state.spoiled) _ slot).1)
           (inr (is_b (adds o Accepted (Some relay) None (with_note (Some (accepted_at o.state.now note)) o.state)) note it refl fit))
 
       clashing : (note : Note R) → slot_open o.state b ≡ true → o.state.round.note ≡ Some note → same_block k note.block b ≡ false → clashes t o ≡ final → Primed b (clashes t o).state

@@ -20,11 +20,11 @@ unsound-last sound i (suc k) =
     let q : unsound_from sound (suc i) (suc k) ≡ unsound_from sound (suc i) k + cond (sound (i + suc k)) 0 1 = rw e at r in
     omega arith
 
-pub unsound-from : (sound : ℕ → Bool) (n : ℕ) → unsound_from sound 0 n ≡ unsound sound n
+pub unsound_from_lem : (sound : ℕ → Bool) (n : ℕ) → unsound_from sound 0 n ≡ unsound sound n
 unfolding unsound_from
-unsound-from sound zero = refl
-unsound-from sound (suc n) =
-    let r : unsound_from sound 0 n ≡ unsound sound n = unsound-from sound n in
+unsound_from_lem sound zero = refl
+unsound_from_lem sound (suc n) =
+    let r : unsound_from sound 0 n ≡ unsound sound n = unsound_from_lem sound n in
     let l : unsound_from sound 0 (suc n) ≡ unsound_from sound 0 n + cond (sound (0 + n)) 0 1 = unsound-last sound 0 n in
     let e : 0 + n ≡ n = omega arith in
     let q : unsound_from sound 0 (suc n) ≡ unsound_from sound 0 n + cond (sound n) 0 1 = rw e at l in

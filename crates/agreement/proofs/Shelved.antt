@@ -76,13 +76,13 @@ module _ {L : ℕ} {R : Type 0} (S : ℕ) (k : Kind L R) (w : Setting) where
     abbrev Sent : ℕ → Block R → Event → History → Type 0
     Sent i b e p = (e.who ≡ i) × Takes S k w b e p × SendsSome S k w (AsCertificate S k w b) e p
 
-    sent-step : (e : Event) (p : History) (b : Block R) → Driven S k w e p → Step S k w e p (desk S k w e.who (e ∷ p)) →
+    sent_step_lem : (e : Event) (p : History) (b : Block R) → Driven S k w e p → Step S k w e p (desk S k w e.who (e ∷ p)) →
         (OnShelf b (shelf S k w e.who p) → Was (Sent e.who b) p) → OnShelf b (shelf S k w e.who (e ∷ p)) → Was (Sent e.who b) (e ∷ p)
-    sent-step e p b driven (rests c f) old on = was-more _ e p (old (subst (OnShelf b) f on))
-    sent-step e p b driven (ticks call c f short) old on = was-more _ e p (old (subst (OnShelf b) f on))
-    sent-step e p b driven (enters call since g long c f) old on = was-more _ e p (old (subst (OnShelf b) f on))
-    sent-step e p b driven (departs v small leads c f sends) old on = was-more _ e p (old (subst (OnShelf b) f on))
-    sent-step e p b driven (takes c good follows co f took sends) old on =
+    sent_step_lem e p b driven (rests c f) old on = was-more _ e p (old (subst (OnShelf b) f on))
+    sent_step_lem e p b driven (ticks call c f short) old on = was-more _ e p (old (subst (OnShelf b) f on))
+    sent_step_lem e p b driven (enters call since g long c f) old on = was-more _ e p (old (subst (OnShelf b) f on))
+    sent_step_lem e p b driven (departs v small leads c f sends) old on = was-more _ e p (old (subst (OnShelf b) f on))
+    sent_step_lem e p b driven (takes c good follows co f took sends) old on =
         elim (on_pushed b c.block (shelf S k w e.who p) (subst (OnShelf b) f on)) [
           | inl there ↦ was-more _ e p (old there)
           | inr same ↦ ([], e, p, refl, subst (λ x. Sent e.who x e p) same (refl, took, sends lawful driven))
@@ -94,7 +94,7 @@ module _ {L : ℕ} {R : Type 0} (S : ℕ) (k : Kind L R) (w : Setting) where
         elim (whose e.who i) [
           | inl q ↦
               subst (λ j. Was (Sent j b) (e ∷ p)) q
-              (sent-step e p b run.0.driven (step S k w e p) (sent-was e.who p b run.1) (subst (λ j. OnShelf b (shelf S k w j (e ∷ p))) (sym q) on))
+              (sent_step_lem e p b run.0.driven (step S k w e p) (sent-was e.who p b run.1) (subst (λ j. OnShelf b (shelf S k w j (e ∷ p))) (sym q) on))
           | inr q ↦ was-more _ e p (sent-was i p b run.1 (subst (λ (d : Desk S R). OnShelf b d.blocks) (desk-other S k w i e p q) on))
         ]
 

@@ -173,11 +173,11 @@ module _ {L : ℕ} {R : Type 0} (S : ℕ) (k : Kind L R) (w : Setting) where
       by_result this p (outcome k w i (tick room) d)
       (gives_guarded {Q = λ o. Step this p (done o)} d.state room _
       (gives_unless {Q = λ o. Step this p (done o)} (leb last_tick_of d.state.now) _ LastTick (λ _.
-      gives_ok (λ o. Step this p (done o)) t (tick-step t (tick_effect (w.terms i) d.state d.blocks)))))
+      gives_ok (λ o. Step this p (done o)) t (tick_step_lem t (tick_effect (w.terms i) d.state d.blocks)))))
     where
-      tick-step : (t : Outcome S R) → TickEffect (w.terms i) (state S k w i p) (shelf S k w i p) t → Step (event i (tick room)) p (done t)
-      tick-step t (goes c b short) = ticks tt c b short
-      tick-step t (arrives since ph long c b) = enters tt since ph long c b
+      tick_step_lem : (t : Outcome S R) → TickEffect (w.terms i) (state S k w i p) (shelf S k w i p) t → Step (event i (tick room)) p (done t)
+      tick_step_lem t (goes c b short) = ticks tt c b short
+      tick_step_lem t (arrives since ph long c b) = enters tt since ph long c b
   step_of i (offer content room) p =
       let d : Desk S R = desk S k w i p in
       let this : Event = event i (offer content room) in

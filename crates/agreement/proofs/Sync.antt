@@ -38,14 +38,14 @@ module _ {R : Type 0} where
   certified_same : (c d : Certificate R (List ℕ)) → ◌≡◌ {A = Parts R (List ℕ)} (Certified c) (Certified d) → c ≡ d
   certified_same c d e = cc
 
-  bare-body : (c d : Certificate R (List ℕ)) → bare (Certified c) ≡ bare (Certified d) → c.block ≡ d.block
-  bare-body c d e = ap (λ (x : Certificate R (List ℕ)). x.block) (certified_same (bare_body c) (bare_body d) e)
+  bare_body_lem : (c d : Certificate R (List ℕ)) → bare (Certified c) ≡ bare (Certified d) → c.block ≡ d.block
+  bare_body_lem c d e = ap (λ (x : Certificate R (List ℕ)). x.block) (certified_same (bare_body c) (bare_body d) e)
 
   bare-certificate : (c : Certificate R (List ℕ)) (y : Parts R (List ℕ)) → bare (Certified c) ≡ bare y → (d : Certificate R (List ℕ)) × (d.block ≡ c.block) × (y ≡ Certified d)
   bare-certificate c (Proposal b seal parent) e = let z : ◌≡◌ {A = ℕ} 0 1 = cc in absurd (omega arith)
   bare-certificate c (Vote i b seal) e = let z : ◌≡◌ {A = ℕ} 0 1 = cc in absurd (omega arith)
   bare-certificate c (Blame i view seal) e = let z : ◌≡◌ {A = ℕ} 0 1 = cc in absurd (omega arith)
-  bare-certificate c (Certified d) e = (d, sym (bare-body c d e), refl)
+  bare-certificate c (Certified d) e = (d, sym (bare_body_lem c d e), refl)
   bare-certificate c (Notice view mask seals) e = let z : ◌≡◌ {A = ℕ} 0 1 = cc in absurd (omega arith)
 
 module _ {L : ℕ} {R : Type 0} (S : ℕ) (k : Kind L R) (w : Setting) where

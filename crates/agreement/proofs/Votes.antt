@@ -18,7 +18,7 @@ use Rattle.agreement.proofs.Along.{Handed}
 use Rattle.agreement.specs.Laws.{Voted, VotesFor, state}
 use Rattle.agreement.proofs.Moments.{was-here, was-more}
 use Rattle.agreement.proofs.Notes.{block_of, note-fine}
-use Rattle.agreement.proofs.Quorum.{among-each, asked-sound, judged, judged-first, unsound-from, unsound_from}
+use Rattle.agreement.proofs.Quorum.{among-each, asked-sound, judged, judged-first, unsound_from_lem, unsound_from}
 use Rattle.agreement.proofs.Sent.{BlameOnly, OfferMade, Passing, VoteCast, sent_so}
 use Rattle.agreement.proofs.Statements.{blame-no-vote, proposal-no-vote, vote-tells}
 
@@ -73,7 +73,7 @@ module _ {L : ℕ} {R : Type 0} (S : ℕ) (k : Kind L R) (w : Setting) (law : La
   pub quorum-above : unsound_from w.sound 0 w.n < quorum w.n
   quorum-above =
       let few : unsound w.sound w.n ≤ faults w.n = law.few in
-      let same : unsound_from w.sound 0 w.n ≡ unsound w.sound w.n = unsound-from w.sound w.n in
+      let same : unsound_from w.sound 0 w.n ≡ unsound w.sound w.n = unsound_from_lem w.sound w.n in
       omega arith
 
   -- a lawful row of good seals has one of a sound seat, and that seat said the statement before

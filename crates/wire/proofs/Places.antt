@@ -57,10 +57,10 @@ put_then {out} {a} {out₁} {b} {out₂} {at} {i} {j} p q =
 
 -- a message that was put in place was written
 module _ {L : ℕ} {R : Type 0} (k : Kind L R) (out : List ℕ) (at : ℕ) (m : Parts R (List ℕ)) where
-  pub write-end : (end : ℕ) → end ≡ at + message_size L m → end ≤ length out → Ok end ≡ write_end k out at m
-  write-end end e f =
+  pub write_end_lem : (end : ℕ) → end ≡ at + message_size L m → end ≤ length out → Ok end ≡ write_end k out at m
+  write_end_lem end e f =
       ap (λ i. Ok i) e ∙ sym (cond-true (has_room k out at m) _ _ (le-leb (at + message_size L m) (length out) (omega arith)))
 
-  pub write-out : {out₁ : List ℕ} {end : ℕ} → end ≡ at + message_size L m → Put out at (message_bytes k m) out₁ end → out₁ ≡ write_out k out at m
-  write-out e p =
+  pub write_out_lem : {out₁ : List ℕ} {end : ℕ} → end ≡ at + message_size L m → Put out at (message_bytes k m) out₁ end → out₁ ≡ write_out k out at m
+  write_out_lem e p =
       p.is ∙ sym (cond-true (has_room k out at m) _ _ (le-leb (at + message_size L m) (length out) (omega (arith, p.fits))))

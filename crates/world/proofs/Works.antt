@@ -28,14 +28,14 @@ module _ {L S : ℕ} {R : Type 0} (k : Kind L R) (room : ℕ) (x : Result (Outco
 
 module _ {L S : ℕ} {C R : Type 0} {bound : Ghosts C L R} (k : Kind L R) (d : Desk L S C R bound) (tidy : Tidy d) (out out' : List ℕ) where
   -- a desk after its seat's call, before the slip is kept
-  pub record Called-at (r : Result (Outcome S R) Refusal) (outcome : Result (Answer × Slip) Refusal) (d₁ : Desk L S C R bound) : Type 0 where
+  pub record CallAtDesk (r : Result (Outcome S R) Refusal) (outcome : Result (Answer × Slip) Refusal) (d₁ : Desk L S C R bound) : Type 0 where
     pub call : Called k r d.seat.state (blocks_of d) out outcome d₁.seat.state (blocks_of d₁) out'
     pub same_terms : d₁.seat.terms ≡ d.seat.terms
     pub same_cells : cells_of d₁ ≡ cells_of d
     pub same_slip : d₁.slip ≡ d.slip
     pub fits : d₁.filled ≤ length (vec_items d₁.cells)
 
-  refused-works : (r : Result (Outcome S R) Refusal) (e : Refusal) (d₁ d₂ : Desk L S C R bound) (answer : Result Answer Refusal) → Called-at r (Err e) d₁ →
+  refused-works : (r : Result (Outcome S R) Refusal) (e : Refusal) (d₁ d₂ : Desk L S C R bound) (answer : Result Answer Refusal) → CallAtDesk r (Err e) d₁ →
       answer ≡ Err e → d₂ ≡ d₁ → Worked k r d out answer d₂ out'
   refused-works (Ok o) e d₁ d₂ answer c a m = absurd (err_ok c.call.answer)
   refused-works (Err x) e d₁ d₂ answer c a m = record {
@@ -52,7 +52,7 @@ module _ {L S : ℕ} {C R : Type 0} {bound : Ghosts C L R} (k : Kind L R) (d : D
   }
 
   carried-works : (r : Result (Outcome S R) Refusal) (p : Answer × Slip) (d₁ d₂ : Desk L S C R bound) (answer : Result Answer Refusal) → d.seat.state.slip ≡ false →
-      Called-at r (Ok p) d₁ → Settled (Ok p) d₁ answer d₂ → Worked k r d out answer d₂ out'
+      CallAtDesk r (Ok p) d₁ → Settled (Ok p) d₁ answer d₂ → Worked k r d out answer d₂ out'
   carried-works (Err x) p d₁ d₂ answer free c s = absurd (err_ok (sym c.call.answer))
   carried-works (Ok o) p d₁ d₂ answer free c s =
       let none = ap is_some c.same_slip ∙ (tidy.slip_held ∙ free) in
@@ -74,7 +74,7 @@ module _ {L S : ℕ} {C R : Type 0} {bound : Ghosts C L R} (k : Kind L R) (d : D
 
   -- the call, its slip kept
   pub works : (room : ℕ) (x : Result (Outcome S R) Refusal) (outcome : Result (Answer × Slip) Refusal) (d₁ d₂ : Desk L S C R bound) (answer : Result Answer Refusal) →
-      Called-at (guarded d.seat.state room x) outcome d₁ → Settled outcome d₁ answer d₂ → Worked k (guarded d.seat.state room x) d out answer d₂ out'
+      CallAtDesk (guarded d.seat.state room x) outcome d₁ → Settled outcome d₁ answer d₂ → Worked k (guarded d.seat.state room x) d out answer d₂ out'
   works room x (Err e) d₁ d₂ answer c s = refused-works (guarded d.seat.state room x) e d₁ d₂ answer c s.0 s.1
   works room x (Ok p) d₁ d₂ answer c s =
       carried-works (guarded d.seat.state room x) p d₁ d₂ answer (was_free k room x d.seat.state p.0 c.call.answer) c s
@@ -96,7 +96,7 @@ module _ {L S : ℕ} {C R : Type 0} {bound : Ghosts C L R} (k : Kind L R) (d : D
   lent-cells : (ws : List (Block R)) (n : ℕ) (seat : Seat L S C R bound) (outcome : Result (Answer × Slip) Refusal) (f : List (Block R) → ℕ → Result (Outcome S R) Refusal) →
       length ws ≡ cells_of d →
       Called k (f (blocks_of d) (cells_of d)) d.seat.state (blocks_of d) out outcome seat.state (take n ws) out' →
-      n ≤ length ws → seat.terms ≡ d.seat.terms → Called-at k d tidy out out' (f (blocks_of d) (cells_of d)) outcome (lent_desk ws n seat)
+      n ≤ length ws → seat.terms ≡ d.seat.terms → CallAtDesk k d tidy out out' (f (blocks_of d) (cells_of d)) outcome (lent_desk ws n seat)
   lent-cells ws n seat outcome f e c l t =
       let m = refill d.cells ws e in
       record {
@@ -110,7 +110,7 @@ module _ {L S : ℕ} {C R : Type 0} {bound : Ghosts C L R} (k : Kind L R) (d : D
   pub lent : (xs ws : List (Block R)) (n : ℕ) (seat : Seat L S C R bound) (outcome : Result (Answer × Slip) Refusal) (f : List (Block R) → ℕ → Result (Outcome S R) Refusal) →
       xs ≡ vec_items d.cells → length ws ≡ length xs →
       (d.filled ≤ length xs → Called k (f (take d.filled xs) (length xs)) d.seat.state (take d.filled xs) out outcome seat.state (take n ws) out') →
-      n ≤ length ws → seat.terms ≡ d.seat.terms → Called-at k d tidy out out' (f (blocks_of d) (cells_of d)) outcome (lent_desk ws n seat)
+      n ≤ length ws → seat.terms ≡ d.seat.terms → CallAtDesk k d tidy out out' (f (blocks_of d) (cells_of d)) outcome (lent_desk ws n seat)
   lent xs ws n seat outcome f ex el c l t =
       lent-cells ws n seat outcome f (el ∙ ap length ex)
       (subst (λ zs. d.filled ≤ length zs → Called k (f (take d.filled zs) (length zs)) d.seat.state (take d.filled zs) out outcome seat.state (take n ws) out') ex c tidy.within) l t
