@@ -2,7 +2,7 @@
 
 // The rank of a block: its view, and its turn in that view. Ranks are ordered by view, then by turn. The root of
 // the log has no rank and lies below every rank: where a rank or the root is meant, the type is Option<Rank>.
-#[derive(Clone, Copy)]
+#[derive(Clone, Copy, PartialEq, Eq, PartialOrd, Ord, Debug)]
 pub struct Rank {
     pub view: u16,
     pub turn: u16,

@@ -9,14 +9,14 @@ impl Rank {
     pub fn same(self, other: Rank) -> bool
         ensures { result ≡ same_rank self other }
     {
-        (self.view == other.view) & (self.turn == other.turn)
+        self == other
     }
 
     // By view, then by turn.
     pub fn below(self, other: Rank) -> bool
         ensures { result ≡ below self other }
     {
-        (self.view < other.view) | ((self.view == other.view) & (self.turn < other.turn))
+        self < other
     }
 }
 
@@ -24,11 +24,7 @@ impl Rank {
 pub fn at_least(a: Option<Rank>, b: Option<Rank>) -> bool
     ensures { result ≡ at_least a b }
 {
-    match (a, b) {
-        (_, None) => true,
-        (None, Some(_)) => false,
-        (Some(a), Some(b)) => !a.below(b),
-    }
+    a >= b
 }
 
 impl<R> Block<R> {
@@ -48,6 +44,6 @@ impl<R> Block<R> {
 pub fn same_block<const L: usize, C: Content<L>>(a: &Block<C::Record>, b: &Block<C::Record>) -> bool
     ensures { result ≡ same_block C.Content.kind a.now b.now }
 {
-    a.rank.same(b.rank)
-        & ((a.height == b.height) & (a.parent.same(b.parent) & C::same(&a.content, &b.content)))
+    (a.rank == b.rank)
+        & ((a.height == b.height) & ((a.parent == b.parent) & C::same(&a.content, &b.content)))
 }
