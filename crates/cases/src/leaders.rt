@@ -40,13 +40,12 @@ fn a_posted_rota_goes_round_its_entries(rt: HostRuntime) -> Result<(), Fail> {
 }
 
 #[test]
-fn a_posted_rota_has_one_to_sixteen_entries(rt: HostRuntime) -> Result<(), Fail> {
+fn a_posted_rota_has_one_to_sixteen_entries(rt: HostRuntime) {
     assert!(rt; PostedRota::new(&ENTRIES[0..16], 15).is_ok());
     for count in [0, 17] {
-        match PostedRota::new(&ENTRIES[0..count], 15) {
-            Err(e) => assert_eq!(rt; e, Refusal::OutOfLimits),
-            Ok(_) => return Err(Fail::new("too few or too many")),
-        }
+        assert_eq!(rt;
+            PostedRota::new(&ENTRIES[0..count], 15).err(),
+            Some(Refusal::OutOfLimits)
+        );
     }
-    Ok(())
 }

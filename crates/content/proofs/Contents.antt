@@ -15,10 +15,6 @@ decides_when false x = (λ e. absurd (false≢true e), λ e. (when_is false x x 
 pub decides_read : {R : Type 0} (test : R → Bool) (b : Bool) (x r : R) → b ≡ true → x ≡ r → Decides (test r) (then_some (b && test x) x ≡ Some r)
 decides_read test b x r p q = rw (p, q) (decides_when (test r) r)
 
--- bytes of another length are not read
-pub unread : {R : Type 0} (a b : Bool) (x : R) → a ≡ false → None ≡ then_some (a && b) x
-unread a b x e = rw e
-
 -- what is read from a slice of any length is what the kind reads
 pub read_is : {L : ℕ} {R : Type 0} (k : Kind L R) (xs : List ℕ) (r : R) → read_content k xs ≡ Ok r → k.reads xs ≡ Some r
 read_is {L} {R} k xs r h = passed (ltb (length xs) L) (ltb L (length xs)) (k.reads xs) h

@@ -1,8 +1,7 @@
 -- Lemmas on an edit's bytes and numbers.
-use Rattle.std.proofs.Common.{◌≡◌, ℕ, zero, suc, ◌^◌, ◌<◌, ◌≤◌, Bool, true, false, not, T, eqb, List, ◌∷◌, ◌++◌, length, take, replicate, IfOk, Ok, Decides, Option, Result, sym, refl, ap, ◌∙◌, subst, arith}
+use Rattle.std.proofs.Common.{◌≡◌, ℕ, zero, suc, ◌^◌, ◌<◌, ◌≤◌, Bool, true, false, not, T, eqb, List, ◌∷◌, length, take, drop, length-drop, take_all, IfOk, Ok, Decides, Option, Result, sym, refl, ap, ◌∙◌, subst, arith}
 use lib.Ieee.{Float, nan, inf, fin, binary64, to_bits, le, lt, eq, is_nan}
 use lib.Ieee.Bits.{to_bits-of_bits}
-use borrow.Rule.Slice.PartMut.{put_mid}
 use Rattle.content.specs.declared.edit.Edit.{Edit}
 use Rattle.content.specs.declared.edit.EditRecord.{EditRecord}
 use Rattle.std.proofs.lemmas.Bool.{false≢true, and_parts, eqb-true, ne_eqb}
@@ -11,13 +10,10 @@ use Rattle.content.specs.declared.refusal.Refusal.TheVariants.{NoContent}
 use Rattle.content.specs.Edits.{edits, edit_at, edit_shown, stands, value, within, is_edit, named, called, kept, edit_of, record_of, edit_from, edit_bytes}
 use Rattle.std.proofs.lemmas.Result.{IfOk-weaker}
 use Rattle.std.specs.Option.{ok_or}
+use Rattle.std.specs.Bool.{then_some}
 use Rattle.content.specs.Kinds.{Bytes, Lawful, next, ok_if, read_content, write_answer, write_memory}
-use Rattle.content.specs.Numbers.{spell, number-spell}
+use Rattle.content.specs.Numbers.{number, number-spell}
 use Rattle.content.proofs.Contents.{decides_read, read_back, written-front}
-
--- two numbers written over an array whose first byte is set
-pub written : (t m n : ℕ) (xs ys : List ℕ) → xs ≡ spell 8 m → ys ≡ spell 8 n → put_mid 9 8 (put_mid 1 8 (t ∷ replicate 16 0) xs) ys ≡ t ∷ (spell 8 m ++ spell 8 n)
-written t m n xs ys p q = rw (p, q)
 
 record_is : (t a b m n : ℕ) → a ≡ m → b ≡ n → ◌≡◌ {A = EditRecord} (record { tag = t; first = a; second = b }) (record { tag = t; first = m; second = n })
 record_is t a b m n p q = rw (p, q)
@@ -26,8 +22,15 @@ record_is t a b m n p q = rw (p, q)
 pub edit_at-shown : (e : EditRecord) → e.first < 2 ^ 64 → e.second < 2 ^ 64 → edit_at (edit_shown e) ≡ e
 edit_at-shown e h k = record_is e.tag _ _ _ _ (number-spell 8 e.first h) (number-spell 8 e.second k)
 
-pub stands-lawful : (e : EditRecord) → e.first < 2 ^ 64 → e.second < 2 ^ 64 → Decides (stands e) (Lawful edits e)
-stands-lawful e h k = decides_read stands true _ e refl (edit_at-shown e h k)
+-- what is read from a tag and two numbers of eight bytes
+pub edits_read : (src numbers xs ys : List ℕ) (t m n : ℕ) (b : Bool) → src ≡ t ∷ numbers → xs ≡ take 8 numbers → ys ≡ drop 8 numbers → length ys ≡ 8 → m ≡ number xs → n ≡ number ys → b ≡ is_edit t m n → then_some b (record { tag = t; first = m; second = n }) ≡ edits.reads src
+edits_read src numbers xs ys t m n b w p q l e f h =
+    let l : length numbers ≡ 16 = omega (arith, length-drop 8 numbers, ap length q) in
+    let rest : take 8 (drop 8 numbers) ≡ drop 8 numbers = take_all 8 (drop 8 numbers) (omega (arith, length-drop 8 numbers)) in
+    rw (h, e, f, p, q, w, l, rest)
+
+pub stands_lawful : (e : EditRecord) → e.first < 2 ^ 64 → e.second < 2 ^ 64 → Decides (stands e) (Lawful edits e)
+stands_lawful e h k = decides_read stands true _ e refl (edit_at-shown e h k)
 
 ok_when : {X : Type 0} (b : Bool) (x : X) → b ≡ true → ok_if b x ≡ Ok x
 ok_when b x e = rw e
@@ -66,18 +69,16 @@ kept-named (suc (suc (suc (suc t)))) a b h k w =
     above : (n k : ℕ) → k < n → eqb n k ≡ false
     above n k h = ne_eqb n k (λ e. omega arith)
 
-pub edit_back : (r : EditRecord) (e : Edit) → r.first < 2 ^ 64 → r.second < 2 ^ 64 → stands r ≡ true → e ≡ called r → record_of e ≡ Ok r
-edit_back r e h k s c =
-    let same : kept e ≡ r = ap kept c ∙ kept-named r.tag r.first r.second h k s in
-    subst (λ (x : EditRecord). ok_if (stands x) x ≡ Ok r) (sym same) (ok_when (stands r) r s)
-
--- a record that is an edit stands
-pub edit_stands : (r : EditRecord) (e : Edit) → edit_of r ≡ Ok e → stands r ≡ true
-edit_stands r e h = told (stands r) h
+-- an edit that a record stands for has that record
+pub called_back : (r : EditRecord) (e : Edit) → r.first < 2 ^ 64 → r.second < 2 ^ 64 → edit_of r ≡ Ok e → record_of e ≡ Ok r
+called_back r e h k o =
+    let s = stood (stands r) o in
+    let same : kept e ≡ r = ap kept (sym s.1) ∙ kept-named r.tag r.first r.second h k s.0 in
+    subst (λ (x : EditRecord). ok_if (stands x) x ≡ Ok r) (sym same) (ok_when (stands r) r s.0)
   where
-    told : (b : Bool) → ok_if b (called r) ≡ Ok e → b ≡ true
-    told true h = refl
-    told false h = absurd (let z : ◌≡◌ {A = ℕ} 0 1 = cc in omega arith)
+    stood : (b : Bool) → ok_if b (called r) ≡ Ok e → (b ≡ true) × (called r ≡ e)
+    stood true h = (refl, cc)
+    stood false h = absurd (let z : ◌≡◌ {A = ℕ} 0 1 = cc in omega arith)
 
 pub record_back : (e : Edit) (r : EditRecord) → stands r ≡ true → called r ≡ e → edit_of r ≡ Ok e
 record_back e r s c = ok_when (stands r) (called r) s ∙ ap Ok c

@@ -1,28 +1,8 @@
 -- The laws of numbers in bytes, and what the standard library's `from_le_bytes` and `to_le_bytes` are by them.
-use Rattle.std.proofs.Common.{◌≡◌, ℕ, zero, suc, ◌+◌, ◌*◌, ◌/◌, ◌%◌, ◌^◌, ◌<◌, Bool, true, false, ◌&&◌, eqb, List, [], ◌∷◌, ◌++◌, length, get_or, refl, ap, pow-suc, arith}
+use Rattle.std.proofs.Common.{◌≡◌, ℕ, ◌+◌, ◌*◌, ◌/◌, ◌%◌, List, [], ◌∷◌, length, get_or, refl, arith}
 use native.Mathlib.Nat.{div-div-eq-div-mul}
-use Rattle.std.proofs.lemmas.Bool.{eq-eqb}
-use Rattle.std.proofs.lemmas.Bool.Decides.{nat_tests}
-use Rattle.std.specs.Str.{bytes_eq}
 use Rattle.content.specs.Numbers.{number, spell}
 pub use Rattle.content.specs.Numbers.{spell-number, number-spell, length-spell, bytes-spell, number-below}
-
--- numbers of so many bytes are compared by their bytes
-pub same-spell : (k m n : ℕ) (xs ys : List ℕ) → m < 256 ^ k → n < 256 ^ k → bytes_eq (spell k m ++ xs) (spell k n ++ ys) ≡ (eqb m n && bytes_eq xs ys)
-same-spell zero m n xs ys h l = let e : eqb m n ≡ true = eq-eqb m n (omega arith) in rw e
-same-spell (suc k) m n xs ys h l =
-    let p : 256 ^ suc k ≡ 256 ^ k * 256 = pow-suc 256 k in
-    let a : m / 256 < 256 ^ k = omega arith in
-    let b : n / 256 < 256 ^ k = omega arith in
-    let rest = same-spell k (m / 256) (n / 256) xs ys a b in
-    rw rest (regroup (eqb (m % 256) (n % 256)) (eqb (m / 256) (n / 256)) (eqb m n) (bytes_eq xs ys) (digits m n))
-  where
-    digits : (m n : ℕ) → (eqb (m % 256) (n % 256) && eqb (m / 256) (n / 256)) ≡ eqb m n
-    digits m n = grind (arith, nat_tests)
-
-    regroup : (a b c d : Bool) → (a && b) ≡ c → (a && (b && d)) ≡ (c && d)
-    regroup true b c d e = ap (λ (x : Bool). x && d) e
-    regroup false b c d e = ap (λ (x : Bool). x && d) e
 
 -- what `to_le_bytes` answers is the number's spelling
 pub to_le_16 : (n : ℕ) → ◌≡◌ {A = List ℕ} (n % 256 ∷ n / 256 % 256 ∷ []) (spell 2 n)

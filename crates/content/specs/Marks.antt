@@ -1,7 +1,8 @@
 -- What a chapter mark is: a start in whole seconds and a title, and their bytes.
-use Rattle.std.specs.Prelude.{◌≡◌, ℕ, suc, ◌-◌, ◌≤◌, Bool, true, cond, ◌&&◌, List, [], ◌∷◌, ◌++◌, length, take, drop, replicate, Some, Option, Result, ◌==◌, nat_le, nat_lt}
+use Rattle.std.specs.Prelude.{◌≡◌, ℕ, ◌-◌, ◌≤◌, Bool, ◌&&◌, List, ◌++◌, length, take, drop, replicate, Some, Option, Result, ◌==◌, nat_le, nat_lt}
 use Rattle.std.proofs.Common.{sym, ap, ◌∙◌, arith, lit≤, length-drop, take-append-drop, length-take-le, take_all}
 use Rattle.std.specs.Bool.{then_some}
+use Rattle.std.specs.List.{list_all, prefix_len}
 use Rattle.std.proofs.lemmas.Bool.{eqb-true, and_parts}
 use Rattle.content.specs.declared.mark.ChapterMark.{ChapterMark}
 use Rattle.content.specs.declared.refusal.Refusal.{Refusal}
@@ -14,12 +15,10 @@ is_text b = nat_le 32 b && nat_le b 126
 
 -- how many bytes of text stand at the front
 abbrev pub text_length : List ℕ → ℕ
-text_length [] = 0
-text_length (b ∷ bs) = cond (is_text b) (suc (text_length bs)) 0
+text_length = prefix_len is_text
 
 abbrev pub all_zero : List ℕ → Bool
-all_zero [] = true
-all_zero (b ∷ bs) = b == 0 && all_zero bs
+all_zero = list_all (λ b. b == 0)
 
 -- a title: a byte of text or more, and after the text only zero bytes
 abbrev pub is_title : List ℕ → Bool

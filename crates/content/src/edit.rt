@@ -1,13 +1,11 @@
 // An edit of a recording: a trim, a gain, an undo or a save, in 17 bytes.
-ghost use Rattle.std.specs.Prelude.{◌≡◌, ◌∷◌, ◌++◌, take, IfOk, Ok, Decides, to_bits};
+ghost use Rattle.std.specs.Prelude.{◌≡◌, take, IfOk, Ok, Decides, to_bits};
 ghost use Rattle.std.specs.Float.{binary64};
-ghost use Rattle.content.specs.Edits.{value, within, is_second, is_gain, below, is_edit, edits, named, called, kept, edit_of, record_of, edit_from, edit_bytes};
+ghost use Rattle.content.specs.Edits.{value, within, is_second, is_gain, below, stands, is_edit, edits, called, kept, edit_of, record_of, edit_from, edit_bytes};
 ghost use Rattle.content.specs.Kinds.{Lawful, write_answer, write_memory};
-ghost use Rattle.content.specs.Numbers.{spell};
 
 use crate::kind::{Content, read_content, write_content};
 use crate::refusal::Refusal;
-use crate::word::word64;
 use std::num::{f64_from_bits_with_nan, f64_to_bits_with_nan};
 
 // the longest recording, in seconds
@@ -28,6 +26,7 @@ pub enum Edit {
 }
 
 // An edit as it is kept: its tag, and its two numbers as their bits.
+// The tag is a number and no enum, since these are the fields of the 17 bytes; what they stand for is an `Edit`.
 #[derive(Clone, Copy, PartialEq, Eq, Debug)]
 pub struct EditRecord {
     tag: u8,
@@ -39,7 +38,7 @@ fn in_range(bits: u64, least: f64, most: f64) -> bool
     ensures { result ≡ within least most bits }
 {
     let x = f64_from_bits_with_nan(bits);
-    (least <= x) & ((x <= most) & ((x != 0.0) | (bits == 0)))
+    least <= x && x <= most && (x != 0.0 || bits == 0)
 }
 
 fn is_second(bits: u64) -> bool
@@ -74,53 +73,37 @@ fn is_edit(tag: u8, first: u64, second: u64) -> bool
     ensures { result ≡ is_edit tag first second }
 {
     match tag {
-        0 => is_second(first) & (is_second(second) & is_below(first, second)),
-        1 => is_second(first) & is_gain(second),
-        2 | 3 => (first == 0) & (second == 0),
+        0 => is_second(first) && is_second(second) && is_below(first, second),
+        1 => is_second(first) && is_gain(second),
+        2 | 3 => first == 0 && second == 0,
         _ => false,
     }
 }
 
-// Whether a record with these fields is lawful.
-fn stands(tag: u8, first: u64, second: u64) -> bool
-    ensures answer { result ≡ is_edit tag first second }
-    ensures lawful { Decides result (Lawful edits (record { tag = tag; first = first; second = second })) }
-{
-    is_edit(tag, first, second)
-}
-
-// The edit of a tag, one that stands.
-fn edit_named(tag: u8, x: f64, y: f64) -> Edit
-    ensures { result ≡ named tag x y }
-{
-    match tag {
-        0 => Edit::Trim(x, y),
-        1 => Edit::Gain(x, y),
-        2 => Edit::Undo,
-        _ => Edit::Save,
-    }
-}
-
-// The bytes of a tag and two numbers, low byte first.
-fn laid_out(tag: u8, first: u64, second: u64) -> [u8; 17]
-    ensures { result ≡ tag ∷ (spell 8 first ++ spell 8 second) }
-{
-    let mut out = [0; 17];
-    out[0] = tag;
-    out[1..9].copy_from_slice(&first.to_le_bytes());
-    out[9..17].copy_from_slice(&second.to_le_bytes());
-    out
-}
-
 impl EditRecord {
+    // Whether the record is an edit, and so lawful.
+    #[tactic(auto, using(crate::proofs::Edits::stands_lawful))]
+    fn stands(&self) -> bool
+        ensures answer { result ≡ stands self.now }
+        ensures lawful { Decides result (Lawful edits self.now) }
+    {
+        let EditRecord { tag, first, second } = *self;
+        is_edit(tag, first, second)
+    }
+
     // The edit that the record stands for, if it stands.
     fn called(&self) -> Edit
         ensures answer { result ≡ called self.now }
         ensures back { edit_of self.now ≡ Ok result → record_of result ≡ Ok self.now }
     {
-        let first = f64_from_bits_with_nan(self.first);
-        let second = f64_from_bits_with_nan(self.second);
-        edit_named(self.tag, first, second)
+        let x = f64_from_bits_with_nan(self.first);
+        let y = f64_from_bits_with_nan(self.second);
+        match self.tag {
+            0 => Edit::Trim(x, y),
+            1 => Edit::Gain(x, y),
+            2 => Edit::Undo,
+            _ => Edit::Save,
+        }
     }
 
     // The edit that the record stands for.
@@ -128,7 +111,7 @@ impl EditRecord {
         ensures answer { result ≡ edit_of self.now }
         ensures back { IfOk result (λ e. record_of e ≡ Ok self.now) }
     {
-        if stands(self.tag, self.first, self.second) {
+        if self.stands() {
             Ok(self.called())
         } else {
             Err(Refusal::NoContent { at: 0 })
@@ -176,7 +159,7 @@ impl Edit {
         ensures lawful { IfOk result (λ e. Lawful edits e) }
     {
         let kept = self.kept();
-        if stands(kept.tag, kept.first, kept.second) {
+        if kept.stands() {
             Ok(kept)
         } else {
             Err(Refusal::NoContent { at: 0 })
@@ -212,28 +195,31 @@ impl Content<{ Edit::LEN }> for Edit {
     ghost kind = { edits };
 
     fn read(src: &[u8]) -> Option<EditRecord> {
-        if src.len() != Edit::LEN {
-            return None;
-        }
-        let tag = src[0];
-        let first = word64(&src[1..9]);
-        let second = word64(&src[9..17]);
-        if is_edit(tag, first, second) {
-            Some(EditRecord { tag, first, second })
-        } else {
-            None
-        }
+        let (tag, numbers) = src.split_first()?;
+        let (first, second) = numbers.split_first_chunk::<8>()?;
+        let second = second.as_array::<8>()?;
+        let record = EditRecord {
+            tag: *tag,
+            first: u64::from_le_bytes(*first),
+            second: u64::from_le_bytes(*second),
+        };
+        record.stands().then_some(record)
     }
 
     fn bytes(rec: &EditRecord) -> [u8; 17] {
-        laid_out(rec.tag, rec.first, rec.second)
+        let mut out = [0; 17];
+        out[0] = rec.tag;
+        out[1..9].copy_from_slice(&rec.first.to_le_bytes());
+        out[9..].copy_from_slice(&rec.second.to_le_bytes());
+        out
     }
 
+    // by fields, since a proof over `==` of whole records is not told that their numbers fit their types
     fn same(a: &EditRecord, b: &EditRecord) -> bool {
-        (a.tag == b.tag) & ((a.first == b.first) & (a.second == b.second))
+        a.tag == b.tag && a.first == b.first && a.second == b.second
     }
 
     fn lawful(rec: &EditRecord) -> bool {
-        stands(rec.tag, rec.first, rec.second)
+        rec.stands()
     }
 }

@@ -40,10 +40,7 @@ pub fn read_content<const L: usize, C: Content<L>>(src: &[u8]) -> Result<C::Reco
     if src.len() > L {
         return Err(Refusal::Trailing { at: L });
     }
-    match C::read(src) {
-        Some(rec) => Ok(rec),
-        None => Err(Refusal::NoContent { at: 0 }),
-    }
+    C::read(src).ok_or(Refusal::NoContent { at: 0 })
 }
 
 // Writes the bytes of a record to the front of `out`, and says how many.

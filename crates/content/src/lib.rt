@@ -5,4 +5,3 @@ pub mod edit;
 pub mod kind;
 pub mod mark;
 pub mod refusal;
-mod word;

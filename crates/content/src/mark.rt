@@ -9,7 +9,6 @@ ghost use Rattle.std.specs.Cmp as Keys;
 
 use crate::kind::Content;
 use crate::refusal::Refusal;
-use crate::word::word32;
 
 // the longest recording, in seconds
 const LAST_SECOND: u32 = 86_400;
@@ -24,7 +23,7 @@ pub struct ChapterMark {
 fn is_text(b: u8) -> bool
     ensures { result ≡ is_text b }
 {
-    (32 <= b) & (b <= 126)
+    32 <= b && b <= 126
 }
 
 // How many bytes of text stand at the front.
@@ -32,23 +31,13 @@ fn text_length(bytes: &[u8]) -> usize
     ensures answer { result ≡ text_length bytes.now }
     ensures within { result ≤ length bytes.now }
 {
-    for i in 0..bytes.len() {
-        if !is_text(bytes[i]) {
-            return i;
-        }
-    }
-    bytes.len()
+    bytes.iter().take_while(|b| is_text(**b)).count()
 }
 
 fn all_zero(bytes: &[u8]) -> bool
     ensures { result ≡ all_zero bytes.now }
 {
-    for b in bytes {
-        if *b != 0 {
-            return false;
-        }
-    }
-    true
+    bytes.iter().all(|b| *b == 0)
 }
 
 // Whether bytes are text, and then only zero bytes.
@@ -56,7 +45,7 @@ fn is_title(title: &[u8]) -> bool
     ensures { result ≡ is_title title.now }
 {
     let n = text_length(title);
-    (0 < n) & all_zero(&title[n..])
+    0 < n && all_zero(&title[n..])
 }
 
 // Whether a start and a title are a chapter mark, and so a lawful record.
@@ -64,7 +53,7 @@ fn is_mark(start: u32, title: &[u8]) -> bool
     ensures answer { result ≡ is_mark start title.now }
     ensures lawful { length title.now ≡ 24 → Decides result (Lawful marks (record { start = start; title = title.now })) }
 {
-    (start <= LAST_SECOND) & is_title(title)
+    start <= LAST_SECOND && is_title(title)
 }
 
 // Whether bytes are the text of a title: 1 to 24 of them, all text.
@@ -72,13 +61,7 @@ fn is_heading(text: &[u8]) -> bool
     ensures { result ≡ is_heading text.now }
 {
     let n = text.len();
-    (0 < n) & ((n <= ChapterMark::TITLE) & (text_length(text) == n))
-}
-
-fn same_title(a: &[u8], b: &[u8]) -> bool
-    ensures { result ≡ bytes_eq a.now b.now }
-{
-    a == b
+    0 < n && n <= ChapterMark::TITLE && text_length(text) == n
 }
 
 // A text filled up with zero bytes.
@@ -87,11 +70,12 @@ fn filled(text: &[u8]) -> [u8; 24]
     ensures { result ≡ fill text.now }
 {
     let mut title = [0; 24];
-    title[0..text.len()].copy_from_slice(text);
+    title[..text.len()].copy_from_slice(text);
     title
 }
 
 // A mark of a lawful start and text.
+#[tactic(auto, using(crate::proofs::Marks::made_lawful, crate::proofs::Marks::made_back))]
 fn titled(start: u32, text: &[u8]) -> ChapterMark
     requires { (nat_le start 86400 && is_heading text.now) ≡ true }
     ensures answer { Ok result ≡ mark_of start text.now }
@@ -114,7 +98,7 @@ impl ChapterMark {
         ensures lawful { IfOk result (λ m. Lawful marks m) }
         ensures back { IfOk result (λ m. text_of m.title ≡ text.now) }
     {
-        if (start <= LAST_SECOND) & is_heading(text) {
+        if start <= LAST_SECOND && is_heading(text) {
             Ok(titled(start, text))
         } else {
             Err(Refusal::NoContent { at: 0 })
@@ -133,7 +117,7 @@ impl ChapterMark {
         ensures { result.now ≡ text_of self.now.title }
     {
         let n = text_length(&self.title);
-        &self.title[0..n]
+        &self.title[..n]
     }
 }
 
@@ -143,28 +127,21 @@ impl Content<{ ChapterMark::LEN }> for ChapterMark {
     ghost kind = { marks };
 
     fn read(src: &[u8]) -> Option<ChapterMark> {
-        if src.len() != ChapterMark::LEN {
-            return None;
-        }
-        let start = word32(&src[0..4]);
-        let mut title = [0; 24];
-        title.copy_from_slice(&src[4..28]);
-        if is_mark(start, &title) {
-            Some(ChapterMark { start, title })
-        } else {
-            None
-        }
+        let (start, title) = src.split_first_chunk::<4>()?;
+        let start = u32::from_le_bytes(*start);
+        let title = *title.as_array()?;
+        is_mark(start, &title).then_some(ChapterMark { start, title })
     }
 
     fn bytes(rec: &ChapterMark) -> [u8; 28] {
         let mut out = [0; 28];
-        out[0..4].copy_from_slice(&rec.start.to_le_bytes());
-        out[4..28].copy_from_slice(&rec.title);
+        out[..4].copy_from_slice(&rec.start.to_le_bytes());
+        out[4..].copy_from_slice(&rec.title);
         out
     }
 
     fn same(a: &ChapterMark, b: &ChapterMark) -> bool {
-        (a.start == b.start) & same_title(&a.title, &b.title)
+        a.start == b.start && a.title == b.title
     }
 
     fn lawful(rec: &ChapterMark) -> bool {
@@ -172,7 +149,7 @@ impl Content<{ ChapterMark::LEN }> for ChapterMark {
     }
 }
 
-// Two marks are equal if their bytes are.
+// Two marks are equal if their bytes are: not derived, since that promises equal fields and says nothing of bytes.
 impl PartialEq for ChapterMark {
     ghost eq = { λ a b. bytes_eq (mark_shown a) (mark_shown b) };
 

@@ -7,11 +7,11 @@ use std::test::Fail;
 
 // The bytes of a start, and a title of one text byte, so many of it, and then a tail.
 fn bytes(start: u32, text: u8, count: usize, tail: u8) -> [u8; 28] {
-    let mut out = [0; 28];
-    out[0..4].copy_from_slice(&start.to_le_bytes());
-    for i in 4..28 {
-        out[i] = if i < count { text } else { tail };
+    let mut out = [tail; 28];
+    for byte in out.iter_mut().take(count) {
+        *byte = text;
     }
+    out[..4].copy_from_slice(&start.to_le_bytes());
     out
 }
 

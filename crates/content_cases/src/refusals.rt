@@ -47,6 +47,14 @@ fn other_refusals_have_no_detail(rt: HostRuntime) {
 }
 
 #[test]
+fn refusals_are_the_same_by_number_and_detail(rt: HostRuntime) {
+    let short = Refusal::Short { at: 3 };
+    assert!(rt; short.same(&Refusal::Short { at: 3 }));
+    assert!(rt; !short.same(&Refusal::Short { at: 4 }));
+    assert!(rt; !short.same(&Refusal::Trailing { at: 3 }));
+}
+
+#[test]
 fn refusals_say_what_went_wrong(rt: HostRuntime) -> Result<(), Fail> {
     let heap = rt.alloc();
     assert_eq!(rt;

@@ -29,5 +29,5 @@ pub const MOST_SEATS: u8 = 15;
 pub fn seats_in_limits(n: u8) -> bool
     ensures { result ≡ seats_lawful n }
 {
-    (FEWEST_SEATS <= n) & ((n <= MOST_SEATS) & (n % 2 == 1))
+    FEWEST_SEATS <= n && n <= MOST_SEATS && n % 2 == 1
 }

@@ -12,7 +12,7 @@ pub const MOST_ENTRIES: usize = 16;
 
 #[derive(Clone, Copy)]
 pub struct PostedRota {
-    // the entries, and room after them
+    // the entries, and room after them; an array with a count, as a rota is copied and takes no heap
     room: [u8; MOST_ENTRIES],
     count: usize,
     n: u8,
@@ -26,33 +26,28 @@ impl PostedRota {
         ensures { MadeWithin (posted_lawful n (length entries.now)) (λ v. (v.n ≡ n) × (take v.count v.room ≡ entries.now)) result }
     {
         let count = entries.len();
-        if !(seats_in_limits(n) & ((1 <= count) & (count <= MOST_ENTRIES))) {
+        if !(seats_in_limits(n) && 1 <= count && count <= MOST_ENTRIES) {
             return Err(Refusal::OutOfLimits);
         }
-        Ok(PostedRota {
-            room: roomed(entries),
-            count,
-            n,
-        })
+        let mut room = [0; MOST_ENTRIES];
+        room[..count].copy_from_slice(entries);
+        Ok(PostedRota { room, count, n })
+    }
+
+    // The entries, one or more.
+    fn entries(&self) -> &[u8]
+        ensures { result.now ≡ take self.now.count self.now.room }
+    {
+        &self.room[..self.count]
     }
 
     // The entry that a view comes to.
     fn entry_of(&self, view: u16) -> u8
         ensures { result ≡ entry_of (take self.now.count self.now.room) view }
     {
-        self.room[view as usize % self.count]
+        let entries = self.entries();
+        entries[view as usize % entries.len()]
     }
-}
-
-// The entries, and zeros after them.
-fn roomed(entries: &[u8]) -> [u8; MOST_ENTRIES]
-    requires { length entries.now ≤ 16 }
-    ensures size { length result ≡ 16 }
-    ensures front { take (length entries.now) result ≡ entries.now }
-{
-    let mut room = [0; MOST_ENTRIES];
-    room[0..entries.len()].copy_from_slice(entries);
-    room
 }
 
 impl Rota for PostedRota {
