@@ -1,128 +1,128 @@
 -- Seals by seat, one seat on, and rows in memory of a fixed size, one byte on.
-use Rattle.std.proofs.Common.{◌≡◌, ℕ, zero, suc, ◌+◌, ◌*◌, ◌%◌, ◌^◌, ◌<◌, ◌≤◌, Bool, true, false, List, [], ◌∷◌, ◌++◌, length, get_or, take, set, replicate, is_some, Some, None, Option, sym, refl, ap, ◌∙◌, append_assoc, append-nil, one-mul, pow-suc, zero-mul, add-one, arith, length-append, length-take-le}
+use Rattle.std.proofs.Common.{◌≡◌, ℕ, zero, suc, ◌+◌, ◌*◌, ◌%◌, ◌^◌, ◌<◌, ◌≤◌, Bool, true, false, cond, List, [], ◌∷◌, ◌++◌, length, get_or, take, set, replicate, bit_or, is_some, Some, None, Option, sym, refl, ap, ◌∙◌, one-mul, pow-suc, zero-add, zero-mul, add-one, arith, le_refl, length-append, length-take-le}
+use denote.Ref.{Bor}
 use lib.Pow.{pow-lt}
+use lib.Bits.{or_shifted_r}
+use Rattle.std.specs.Prelude.{if◌then◌else◌}
+use Rattle.std.specs.List.{enumerate_from, flat_map}
+use Rattle.std.proofs.lemmas.List.FromFn.{length-enumerate_from, get_or-enumerate_from}
+use Rattle.std.specs.Option.{option_len, option_to_list}
+use Rattle.std.specs.Iterator.Adapters.{option_iter_item, option_iter_done, option_iter_steps, OptionIterYieldsItsItem}
+use Rattle.std.specs.Bool.{MatchBool}
+use Rattle.std.proofs.lemmas.Iterator.{YieldsList}
+use Rattle.std.proofs.lemmas.Iterator.Consumers.{YieldsList-from_shown}
+use Rattle.std.proofs.lemmas.Option.{none-some}
 use Rattle.std.proofs.lemmas.List.{take_more}
-use Rattle.blocks.specs.Keeping.{padded, Poured}
+use Rattle.blocks.specs.Keeping.{padded}
 use Rattle.blocks.specs.Masks.{Kept, count_kept, mask_kept, row_kept}
 
--- how many of one
-abbrev pub one : Option (List ℕ) → ℕ
-one None = 0
-one (Some seal) = 1
-
-abbrev pub row_one : Option (List ℕ) → List ℕ
-row_one None = []
-row_one (Some seal) = seal
-
-count_push : (kept : Kept) (slot : Option (List ℕ)) → count_kept (kept ++ slot ∷ []) ≡ count_kept kept + one slot
-count_push [] None = refl
-count_push [] (Some seal) = refl
-count_push (None ∷ kept) slot = count_push kept slot
-count_push (Some seal ∷ kept) slot = let h : count_kept (kept ++ slot ∷ []) ≡ count_kept kept + one slot = count_push kept slot in omega arith
-
-mask_push : (kept : Kept) (slot : Option (List ℕ)) → mask_kept (kept ++ slot ∷ []) ≡ mask_kept kept + one slot * 2 ^ length kept
+-- the set of the seats so far, one seat on
+mask_push : (kept : Kept) (slot : Option (List ℕ)) → mask_kept (kept ++ slot ∷ []) ≡ mask_kept kept + option_len slot * 2 ^ length kept
 mask_push [] None = refl
 mask_push [] (Some seal) = refl
 mask_push (None ∷ kept) slot =
-    let h : mask_kept (kept ++ slot ∷ []) ≡ mask_kept kept + one slot * 2 ^ length kept = mask_push kept slot in
+    let h : mask_kept (kept ++ slot ∷ []) ≡ mask_kept kept + option_len slot * 2 ^ length kept = mask_push kept slot in
     let p : 2 ^ suc (length kept) ≡ 2 ^ length kept * 2 = pow-suc 2 (length kept) in
     rw (h, p) (omega arith)
 mask_push (Some seal ∷ kept) slot =
-    let h : mask_kept (kept ++ slot ∷ []) ≡ mask_kept kept + one slot * 2 ^ length kept = mask_push kept slot in
+    let h : mask_kept (kept ++ slot ∷ []) ≡ mask_kept kept + option_len slot * 2 ^ length kept = mask_push kept slot in
     let p : 2 ^ suc (length kept) ≡ 2 ^ length kept * 2 = pow-suc 2 (length kept) in
     rw (h, p) (omega arith)
 
-row_push : (kept : Kept) (slot : Option (List ℕ)) → row_kept (kept ++ slot ∷ []) ≡ row_kept kept ++ row_one slot
-row_push [] None = refl
-row_push [] (Some seal) = append-nil seal
-row_push (None ∷ kept) slot = row_push kept slot
-row_push (Some seal ∷ kept) slot = ap (λ r. seal ++ r) (row_push kept slot) ∙ sym (append_assoc seal (row_kept kept) (row_one slot))
+some-len : (slot : Option (List ℕ)) → is_some slot ≡ true → option_len slot ≡ 1
+some-len None h = absurd (cc)
+some-len (Some seal) h = refl
 
--- one seat on
+none_len : (slot : Option (List ℕ)) → is_some slot ≡ false → option_len slot ≡ 0
+none_len None h = refl
+none_len (Some seal) h = absurd (cc)
+
 module _ (kept : Kept) (i : ℕ) (slot : Option (List ℕ)) (l : i < length kept) (e : slot ≡ get_or kept i slot) where
-  taken : take (i + 1) kept ≡ take i kept ++ slot ∷ []
-  taken = take_more kept i slot l ∙ ap (λ s. take i kept ++ s ∷ []) (sym e)
-
-  pub count_more : count_kept (take (i + 1) kept) ≡ count_kept (take i kept) + one slot
-  count_more = ap count_kept taken ∙ count_push (take i kept) slot
-
-  pub mask_more : mask_kept (take (i + 1) kept) ≡ mask_kept (take i kept) + one slot * 2 ^ i
+  mask_more : mask_kept (take (i + 1) kept) ≡ mask_kept (take i kept) + option_len slot * 2 ^ i
   mask_more =
-      ap mask_kept taken ∙ mask_push (take i kept) slot
-      ∙ ap (λ n. mask_kept (take i kept) + one slot * 2 ^ n) (length-take-le i kept (omega arith))
+      ap mask_kept (take_more kept i slot l ∙ ap (λ s. take i kept ++ s ∷ []) (sym e)) ∙ mask_push (take i kept) slot
+      ∙ ap (λ n. mask_kept (take i kept) + option_len slot * 2 ^ n) (length-take-le i kept (omega arith))
 
-  pub row_more : row_kept (take (i + 1) kept) ≡ row_kept (take i kept) ++ row_one slot
-  row_more = ap row_kept taken ∙ row_push (take i kept) slot
+  pub mask_in : (mask mask' : ℕ) → i < 16 → is_some slot ≡ true → (mask ≡ mask_kept (take i kept)) × (mask < 2 ^ i) → mask' ≡ bit_or mask (1 * 2 ^ i % 65536)
+      → (mask' ≡ mask_kept (take (i + 1) kept)) × (mask' < 2 ^ (i + 1))
+  mask_in mask mask' w t m f =
+      let p : 2 ^ i < 65536 = pow-lt {j = 16} w in
+      let q : 2 ^ (i + 1) ≡ 2 ^ i * 2 = ap (λ j. 2 ^ j) (add-one i) ∙ pow-suc 2 i in
+      let r : option_len slot * 2 ^ i ≡ 2 ^ i = ap (λ j. j * 2 ^ i) (some-len slot t) ∙ one-mul (2 ^ i) in
+      let s : 1 * 2 ^ i % 65536 ≡ 1 * 2 ^ i = omega arith in
+      let o : mask' ≡ 1 * 2 ^ i + mask = f ∙ ap (bit_or mask) s ∙ or_shifted_r 1 i mask m.1 in
+      let a = mask_more in
+      (omega (arith, m.0, a), omega (arith, m.1))
+
+  pub mask_out : (mask mask' : ℕ) → is_some slot ≡ false → (mask ≡ mask_kept (take i kept)) × (mask < 2 ^ i) → mask' ≡ mask
+      → (mask' ≡ mask_kept (take (i + 1) kept)) × (mask' < 2 ^ (i + 1))
+  mask_out mask mask' t m f =
+      let q : 2 ^ (i + 1) ≡ 2 ^ i * 2 = ap (λ j. 2 ^ j) (add-one i) ∙ pow-suc 2 i in
+      let r : option_len slot * 2 ^ i ≡ 0 = ap (λ j. j * 2 ^ i) (none_len slot t) ∙ zero-mul (2 ^ i) in
+      let a = mask_more in
+      (omega (arith, m.0, a), omega (arith, m.1))
+
+-- what is there of an option, as a list
+none-there : {A : Type 0} (d : Bool) (o : Option A) → MatchBool d (◌≡◌ {A = Option (Bor A)} None None) (None ≡ o) → length (cond d [] (option_to_list o)) ≡ 0
+none-there true o m = refl
+none-there false o m = ap (λ p. length (option_to_list p)) (sym m)
+
+one_there : {A : Type 0} (d e : Bool) (o p : Option A) (x : Bor A) → e ≡ true → MatchBool d (Some x ≡ None) (Some x.now ≡ o) → cond d [] (option_to_list o) ≡ x.now ∷ cond e [] (option_to_list p)
+one_there true e o p x h m = absurd (none-some x (sym m))
+one_there false e o p x h m = rw (h, ← m) refl
+
+pub opened : {A : Type 0} (x : Bor (Option A)) (j : _) → (option_iter_item j ≡ x.now) × (option_iter_done j ≡ false) × ((if option_iter_done j then 0 else option_len (option_iter_item {T = A} j)) ≤ 1) × OptionIterYieldsItsItem A
+    → YieldsList option_iter_steps (λ y. y.now) j (option_to_list x.now)
+opened {A = A} x j b =
+    let e : cond (option_iter_done j) [] (option_to_list (option_iter_item j)) ≡ option_to_list x.now = rw (b.1, b.0) refl in
+    rw (← e) (YieldsList-from_shown option_iter_steps (λ y. y.now) (λ s. cond (option_iter_done s) [] (option_to_list (option_iter_item s)))
+    (λ s t m. none-there (option_iter_done s) (option_iter_item s) m.1)
+    (λ s y t m. one_there (option_iter_done s) (option_iter_done t) (option_iter_item s) (option_iter_item t) y m.0 m.1) j)
+
+-- the seals of a row, one after another
+pub count_opened : (kept : Kept) → length (flat_map option_to_list kept) ≡ count_kept kept
+count_opened [] = refl
+count_opened (None ∷ kept) = count_opened kept
+count_opened (Some seal ∷ kept) = ap suc (count_opened kept)
+
+pub count_most : (kept : Kept) → count_kept kept ≤ length kept
+count_most [] = le_refl 0
+count_most (None ∷ kept) = let h : count_kept kept ≤ length kept = count_most kept in omega arith
+count_most (Some seal ∷ kept) = let h : count_kept kept ≤ length kept = count_most kept in omega arith
+
+pub row_opened : (kept : Kept) → flat_map (λ seal. seal) (flat_map option_to_list kept) ≡ row_kept kept
+row_opened [] = refl
+row_opened (None ∷ kept) = row_opened kept
+row_opened (Some seal ∷ kept) = ap (λ r. seal ++ r) (row_opened kept)
 
 -- memory that a byte is put into
-set-padded : (room : ℕ) (xs : List ℕ) (b : ℕ) → set (padded room xs) (length xs) b ≡ padded room (xs ++ b ∷ [])
+pub set-padded : (room : ℕ) (xs : List ℕ) (b : ℕ) → set (padded room xs) (length xs) b ≡ padded room (xs ++ b ∷ [])
 unfolding padded
 set-padded zero xs b = refl
 set-padded (suc room) [] b = refl
 set-padded (suc room) (x ∷ xs) b = ap (λ r. x ∷ r) (set-padded room xs b)
-
-padded-full : (room : ℕ) (xs ys : List ℕ) → room ≤ length xs → padded room (xs ++ ys) ≡ padded room xs
-unfolding padded
-padded-full zero xs ys h = refl
-padded-full (suc room) [] ys h = absurd (omega arith)
-padded-full (suc room) (x ∷ xs) ys h = ap (λ r. x ∷ r) (padded-full room xs ys (omega arith))
 
 pub padded-none : (room : ℕ) → replicate room 0 ≡ padded room []
 unfolding padded
 padded-none zero = refl
 padded-none (suc room) = ap (λ r. 0 ∷ r) (padded-none room)
 
-pub poured_in : (xs row : List ℕ) (at b : ℕ) → at < 512 → Poured xs row at → Poured (xs ++ b ∷ []) (set row at b) (at + 1)
-poured_in xs row at b h p =
-    let n : at ≡ length xs = omega (arith, p.end) in
-    let l : length (xs ++ b ∷ []) ≡ length xs + 1 = length-append xs (b ∷ []) in
-    record { is = rw (p.is, n) (set-padded 512 xs b); end = omega arith }
+pub padded-cut : (room : ℕ) (xs : List ℕ) → padded room (take room xs) ≡ padded room xs
+unfolding padded
+padded-cut zero xs = refl
+padded-cut (suc room) [] = refl
+padded-cut (suc room) (x ∷ xs) = ap (λ r. x ∷ r) (padded-cut room xs)
 
-pub poured_full : (xs row : List ℕ) (at b : ℕ) → 512 ≤ at → Poured xs row at → Poured (xs ++ b ∷ []) row at
-poured_full xs row at b h p =
-    let n : 512 ≤ length xs = omega (arith, p.end) in
-    let l : length (xs ++ b ∷ []) ≡ length xs + 1 = length-append xs (b ∷ []) in
-    record { is = p.is ∙ sym (padded-full 512 xs (b ∷ []) n); end = omega (arith, p.end) }
-
-pub poured_none : Poured [] (replicate 512 0) 0
-poured_none = record { is = padded-none 512; end = refl }
-
--- one byte of a slice on
-module _ (xs bytes : List ℕ) (i : ℕ) (l : i < length bytes) where
-  byte_more : xs ++ take (i + 1) bytes ≡ (xs ++ take i bytes) ++ get_or bytes i 0 ∷ []
-  byte_more = ap (λ ys. xs ++ ys) (take_more bytes i 0 l) ∙ sym (append_assoc xs (take i bytes) (get_or bytes i 0 ∷ []))
-
-  pub poured_more : (row row' : List ℕ) (at at' : ℕ) → at < 512 → row' ≡ set row at (get_or bytes i 0) → at' ≡ at + 1
-      → Poured (xs ++ take i bytes) row at → Poured (xs ++ take (i + 1) bytes) row' at'
-  poured_more row row' at at' h r a p = rw (byte_more, r, a) (poured_in (xs ++ take i bytes) row at (get_or bytes i 0) h p)
-
-  pub poured_still : (row row' : List ℕ) (at at' : ℕ) → 512 ≤ at → row' ≡ row → at' ≡ at
-      → Poured (xs ++ take i bytes) row at → Poured (xs ++ take (i + 1) bytes) row' at'
-  poured_still row row' at at' h r a p = rw (byte_more, r, a) (poured_full (xs ++ take i bytes) row at (get_or bytes i 0) h p)
-
-pub poured_as : {xs ys row row' : List ℕ} {at at' : ℕ} → ys ≡ xs → row' ≡ row → at' ≡ at → Poured xs row at → Poured ys row' at'
-poured_as e r a p = rw (e, r, a) p
-
--- one bit on
-pub mask_in : (mask mask' m m' n i : ℕ) → i < 16 → mask ≡ m → mask < 2 ^ i → mask' ≡ mask + 1 * 2 ^ i % 65536 → m' ≡ m + n * 2 ^ i → n ≡ 1
-    → (mask' ≡ m') × (mask' < 2 ^ (i + 1))
-mask_in mask mask' m m' n i l e h f k o =
-    let p : 2 ^ i < 65536 = pow-lt {j = 16} l in
-    let q : 2 ^ (i + 1) ≡ 2 ^ i * 2 = ap (λ j. 2 ^ j) (add-one i) ∙ pow-suc 2 i in
-    let r : n * 2 ^ i ≡ 2 ^ i = ap (λ j. j * 2 ^ i) o ∙ one-mul (2 ^ i) in
-    (omega arith, omega arith)
-
-pub mask_out : (mask mask' m m' n i : ℕ) → mask ≡ m → mask < 2 ^ i → mask' ≡ mask → m' ≡ m + n * 2 ^ i → n ≡ 0
-    → (mask' ≡ m') × (mask' < 2 ^ (i + 1))
-mask_out mask mask' m m' n i e h f k o =
-    let q : 2 ^ (i + 1) ≡ 2 ^ i * 2 = ap (λ j. 2 ^ j) (add-one i) ∙ pow-suc 2 i in
-    let r : n * 2 ^ i ≡ 0 = ap (λ j. j * 2 ^ i) o ∙ zero-mul (2 ^ i) in
-    (omega arith, omega arith)
-
-pub one-some : (slot : Option (List ℕ)) (b : Bool) → b ≡ is_some slot → b ≡ true → one slot ≡ 1
-one-some None b e h = absurd (let z : ◌≡◌ {A = ℕ} 0 1 = cc in omega arith)
-one-some (Some seal) b e h = refl
-
-pub one_none : (slot : Option (List ℕ)) (b : Bool) → b ≡ is_some slot → b ≡ false → one slot ≡ 0
-one_none None b e h = refl
-one_none (Some seal) b e h = absurd (let z : ◌≡◌ {A = ℕ} 0 1 = cc in omega arith)
+-- bytes put into memory one by one, each at its own place
+pub byte_poured : {T : Type 0} (bytes row : List ℕ) (at b : ℕ) (before : List T) (next : T) → length before < length (enumerate_from 0 bytes)
+    → ◌≡◌ {A = ℕ × ℕ} (at, b) (get_or (enumerate_from 0 bytes) (length before) (at, b)) → row ≡ padded 512 (take (length before) bytes)
+    → set row at b ≡ padded 512 (take (length (before ++ next ∷ [])) bytes)
+byte_poured bytes row at b before next h e r =
+    let i = length before in
+    let l : i < length bytes = rw length-enumerate_from at h in
+    let g : ◌≡◌ {A = ℕ × ℕ} (at, b) (0 + i, get_or bytes i b) = e ∙ get_or-enumerate_from 0 bytes i (at, b) l in
+    let n : length (take i bytes) ≡ i = length-take-le i bytes (omega arith) in
+    let a : at ≡ length (take i bytes) = ap (λ p. p.0) g ∙ zero-add i ∙ sym n in
+    let m : take (length (before ++ next ∷ [])) bytes ≡ take i bytes ++ b ∷ [] =
+    ap (λ k. take k bytes) (length-append before (next ∷ [])) ∙ take_more bytes i b l ∙ ap (λ c. take i bytes ++ c ∷ []) (sym (ap (λ p. p.1) g)) in
+    rw (m, r, a) (set-padded 512 (take i bytes) b)

@@ -32,11 +32,7 @@ impl<R> Block<R> {
     pub fn parent_place(&self) -> Option<Rank>
         ensures { result ≡ parent_of self.now }
     {
-        if self.height == 1 {
-            None
-        } else {
-            Some(self.parent)
-        }
+        (self.height != 1).then_some(self.parent)
     }
 }
 
@@ -44,6 +40,8 @@ impl<R> Block<R> {
 pub fn same_block<const L: usize, C: Content<L>>(a: &Block<C::Record>, b: &Block<C::Record>) -> bool
     ensures { result ≡ same_block C.Content.kind a.now b.now }
 {
-    (a.rank == b.rank)
-        & ((a.height == b.height) & ((a.parent == b.parent) & C::same(&a.content, &b.content)))
+    a.rank == b.rank
+        && a.height == b.height
+        && a.parent == b.parent
+        && C::same(&a.content, &b.content)
 }

@@ -1,6 +1,7 @@
 // Seals kept by seat, and seals in a row.
-ghost use Rattle.std.specs.Prelude.{◌≡◌, ℕ, ◌+◌, ◌<◌, ◌≤◌, List, ◌++◌, length, replicate, None};
-ghost use Rattle.blocks.specs.Keeping.{has_kept, keep_seal, padded, Poured};
+ghost use Rattle.std.specs.Prelude.{◌≡◌, ℕ, List, replicate, None};
+ghost use Rattle.std.specs.Iterator.{IsFinite, AlwaysYields};
+ghost use Rattle.blocks.specs.Keeping.{has_kept, keep_seal, padded};
 ghost use Rattle.blocks.specs.Masks.{count_kept, mask_kept, row_kept};
 
 // How much memory holds a row of seals: 8 of 64 bytes.
@@ -12,75 +13,24 @@ pub struct SealRow<const S: usize> {
     pub by_seat: [Option<[u8; S]>; 15],
 }
 
-fn has_kept<const S: usize>(slots: &[Option<[u8; S]>], seat: usize) -> bool
-    ensures { result ≡ has_kept slots.now seat }
+// A row of these bytes: zeros behind them, and what does not fit is cut off.
+fn row_of<'a, I: Iterator<Item = &'a u8>>(bytes: I) -> [u8; ROW]
+    requires can { I.can_next bytes }
+    requires finite { IsFinite (I.remaining bytes) }
+    ensures { (xs : List ℕ) → AlwaysYields I.next_gives (λ b. b.now) bytes xs → result ≡ padded 512 xs }
 {
-    if seat < slots.len() {
-        slots[seat].is_some()
-    } else {
-        false
+    let mut row = [0; ROW];
+    for (at, byte) in bytes.take(ROW).enumerate() {
+        row[at] = *byte;
     }
-}
-
-fn count_kept<const S: usize>(slots: &[Option<[u8; S]>]) -> u8
-    requires { length slots.now ≤ 15 }
-    ensures { result ≡ count_kept slots.now }
-{
-    let mut count = 0;
-    for i in 0..slots.len() {
-        if slots[i].is_some() {
-            count += 1;
-        }
-    }
-    count
-}
-
-fn mask_kept<const S: usize>(slots: &[Option<[u8; S]>]) -> u16
-    requires { length slots.now ≤ 15 }
-    ensures { result ≡ mask_kept slots.now }
-{
-    let mut mask = 0;
-    for i in 0..slots.len() {
-        if slots[i].is_some() {
-            mask += 1u16 << i;
-        }
-    }
-    mask
-}
-
-// Adds bytes to a row, as far as they fit.
-fn pour(mut row: [u8; ROW], mut at: usize, bytes: &[u8]) -> ([u8; ROW], usize)
-    ensures more { (xs : List ℕ) → Poured xs row at → Poured (xs ++ bytes.now) result.0 result.1 }
-    ensures whole { row ≡ replicate 512 0 → at ≡ 0 → result.0 ≡ padded 512 bytes.now }
-{
-    for byte in bytes {
-        if at < ROW {
-            row[at] = *byte;
-            at += 1;
-        }
-    }
-    (row, at)
+    row
 }
 
 // A row of seals, kept in memory of its own: zeros behind it, and what does not fit is cut off.
 pub fn kept_row(row: &[u8]) -> [u8; ROW]
     ensures { result ≡ padded 512 row.now }
 {
-    let (kept, _) = pour([0; ROW], 0, row);
-    kept
-}
-
-fn row_of<const S: usize>(slots: &[Option<[u8; S]>]) -> [u8; ROW]
-    ensures { result ≡ padded 512 (row_kept slots.now) }
-{
-    let mut row = [0; ROW];
-    let mut at = 0;
-    for i in 0..slots.len() {
-        if let Some(seal) = &slots[i] {
-            (row, at) = pour(row, at, seal);
-        }
-    }
-    row
+    row_of(row.iter())
 }
 
 impl<const S: usize> SealRow<S> {
@@ -96,28 +46,34 @@ impl<const S: usize> SealRow<S> {
     pub fn has(&self, seat: u8) -> bool
         ensures { result ≡ has_kept self.now.by_seat seat }
     {
-        has_kept(&self.by_seat, seat as usize)
+        matches!(self.by_seat.get(seat as usize), Some(Some(_)))
     }
 
     // How many seals are there.
     pub fn count(&self) -> u8
         ensures { result ≡ count_kept self.now.by_seat }
     {
-        count_kept(&self.by_seat)
+        self.by_seat.iter().flatten().count() as u8
     }
 
     // The set of their seats.
     pub fn mask(&self) -> u16
         ensures { result ≡ mask_kept self.now.by_seat }
     {
-        mask_kept(&self.by_seat)
+        let mut mask = 0;
+        for (seat, slot) in self.by_seat[..].iter().enumerate() {
+            if slot.is_some() {
+                mask |= 1 << seat;
+            }
+        }
+        mask
     }
 
     // The seals in a row, by rising seat.
     pub fn row(&self) -> [u8; ROW]
         ensures { result ≡ padded 512 (row_kept self.now.by_seat) }
     {
-        row_of(&self.by_seat)
+        row_of(self.by_seat.iter().flatten().flatten())
     }
 
     // Keeps a copy of a seat's seal. A seal of another length, or of a seat that cannot be, changes nothing.
@@ -130,6 +86,7 @@ impl<const S: usize> SealRow<S> {
         let Ok(copy) = <[u8; S]>::try_from(seal) else {
             return;
         };
+        // By index: what is written through get_mut's reference is not known of the array afterwards.
         self.by_seat[seat as usize] = Some(copy);
     }
 }

@@ -15,6 +15,7 @@ use blocks::block::{Block, Rank};
 use content::refusal::Refusal;
 
 // A shelf over the caller's cells: the first `len` of them are its blocks, in the order in which they were stored.
+// It is a slice with a count beside it, since a seat takes no heap and works in cells that the caller lends.
 #[derive(Drop)]
 pub struct Shelf<'a, R> {
     cells: &'a mut [Block<R>],
@@ -41,11 +42,7 @@ impl<'a, R: Copy> Shelf<'a, R> {
     pub fn blocks(&self) -> &[Block<R>]
         ensures { result.now ≡ held self.now }
     {
-        if self.len < self.size() {
-            &self.cells[0..self.len]
-        } else {
-            self.cells
-        }
+        self.cells.get(..self.len).unwrap_or(self.cells)
     }
 
     // How many blocks the shelf holds.
@@ -98,6 +95,7 @@ impl<'a, R: Copy> Shelf<'a, R> {
         requires { self.old.len < size self.old }
         ensures { self.new ≡ with_block self.old block }
     {
+        // by index: what is written through get_mut's reference is not known of the cells afterwards
         self.cells[self.len] = block;
         self.len += 1;
     }

@@ -1,7 +1,7 @@
 // Searching a list of blocks by plain scans.
-ghost use Rattle.std.specs.Prelude.{◌≡◌, Some};
+ghost use Rattle.std.specs.Prelude.{◌≡◌};
 ghost use Rattle.std.specs.Option.{option_map};
-ghost use Rattle.shelf.specs.Blocks.{find, higher, top_turn, one_lower, climb, read_below};
+ghost use Rattle.shelf.specs.Blocks.{find, top_turn, one_lower, climb, read_below};
 ghost use Rattle.shelf.specs.Cells.{behind, behind_some};
 
 use blocks::block::{Block, Rank};
@@ -11,45 +11,27 @@ use content::refusal::Refusal;
 pub fn first_of_rank<R: Copy>(blocks: &[Block<R>], rank: Rank) -> Option<&Block<R>>
     ensures { option_map (λ x. x.now) result ≡ find rank blocks.now }
 {
-    for block in blocks {
-        if block.rank.same(rank) {
-            return Some(block);
-        }
-    }
-    None
-}
-
-// The greater of a turn and the one so far, if any.
-fn higher_turn(turn: u16, so_far: Option<u16>) -> u16
-    ensures { Some result ≡ higher turn so_far }
-{
-    match so_far {
-        Some(top) => turn.max(top),
-        None => turn,
-    }
+    blocks.iter().find(|block| block.rank == rank)
 }
 
 // The highest turn among the blocks of a view.
 pub fn top_turn_of<R: Copy>(blocks: &[Block<R>], view: u16) -> Option<u16>
     ensures { result ≡ top_turn view blocks.now }
 {
-    let mut top = None;
-    for block in blocks {
-        if block.rank.view == view {
-            top = Some(higher_turn(block.rank.turn, top));
-        }
-    }
-    top
+    blocks
+        .iter()
+        .filter(|block| block.rank.view == view)
+        .map(|block| block.rank.turn)
+        .max()
 }
 
 // The parent of a block: the first block of its parent's rank, which must be exactly one height lower.
 fn parent_of<'b, R: Copy>(blocks: &'b [Block<R>], block: &Block<R>) -> Result<&'b Block<R>, Refusal>
     ensures { behind result ≡ one_lower block.now.height (find block.now.parent blocks.now) }
 {
-    match first_of_rank(blocks, block.parent) {
-        Some(parent) if parent.height as u64 + 1 == block.height as u64 => Ok(parent),
-        _ => Err(Refusal::BrokenShelf),
-    }
+    first_of_rank(blocks, block.parent)
+        .filter(|parent| parent.height as u64 + 1 == block.height as u64)
+        .ok_or(Refusal::BrokenShelf)
 }
 
 // From a block to its parent, so many times.
@@ -61,6 +43,7 @@ fn ancestor_of<'b, R: Copy>(
     ensures { behind result ≡ climb steps blocks.now block.now }
 {
     let mut at = block;
+    // a loop, since each step can refuse
     for _ in 0..steps {
         at = parent_of(blocks, at)?;
     }
@@ -79,11 +62,9 @@ pub fn block_below<R: Copy>(
         return Ok(None);
     };
     match first_of_rank(blocks, rank) {
-        Some(block) if height > 0 && height <= block.height => Ok(Some(ancestor_of(
-            blocks,
-            block,
-            block.height - height,
-        )?)),
+        Some(block) if height > 0 && height <= block.height => {
+            ancestor_of(blocks, block, block.height - height).map(Some)
+        }
         _ => Ok(None),
     }
 }

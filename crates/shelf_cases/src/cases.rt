@@ -21,19 +21,17 @@ fn block<R>(rank: Rank, height: u32, parent: Rank, content: R) -> Block<R> {
     }
 }
 
-// Reading a height below a rank gives a block of this view and turn, nothing, or this refusal.
+// Reading a height below a rank gives a block of this rank, nothing, or this refusal.
 fn reads<R: Copy>(
     rt: &impl Abort,
     shelf: &Shelf<'_, R>,
     below: Rank,
     height: u32,
-    wanted: Result<Option<(u16, u16)>, Refusal>,
+    wanted: Result<Option<Rank>, Refusal>,
 ) {
-    let got = match shelf.read_below(Some(below), height) {
-        Ok(Some(found)) => Ok(Some((found.rank.view, found.rank.turn))),
-        Ok(None) => Ok(None),
-        Err(refusal) => Err(refusal),
-    };
+    let got = shelf
+        .read_below(Some(below), height)
+        .map(|found| found.map(|block| block.rank));
     assert_eq!(rt; got, wanted);
 }
 
@@ -59,9 +57,9 @@ fn grows<const L: usize, C: Content<L>>(
     );
     assert_eq!(rt; shelf.len(), 3);
     assert_eq!(rt; shelf.top_turn(0), Some(1));
-    reads(rt, &shelf, rank(0, 1), 1, Ok(Some((0, 0))));
+    reads(rt, &shelf, rank(0, 1), 1, Ok(Some(rank(0, 0))));
     let found = shelf.find(rank(0, 1)).ok_or("lost")?;
-    assert!(rt; C::same(&found.content, &one) & !C::same(&found.content, &two));
+    assert!(rt; C::same(&found.content, &one) && !C::same(&found.content, &two));
     Ok(())
 }
 
@@ -95,7 +93,7 @@ fn nonsense<R: Copy>(content: R) -> [Block<R>; 8] {
     ]
 }
 
-const BROKEN: Result<Option<(u16, u16)>, Refusal> = Err(Refusal::BrokenShelf);
+const BROKEN: Result<Option<Rank>, Refusal> = Err(Refusal::BrokenShelf);
 
 // Every read of a shelf filled with nonsense ends, and is refused only where the walk meets it.
 fn reads_nonsense<R: Copy>(rt: &impl Abort, cells: &mut [Block<R>]) -> Result<(), Fail> {
@@ -108,15 +106,15 @@ fn reads_nonsense<R: Copy>(rt: &impl Abort, cells: &mut [Block<R>]) -> Result<()
     assert!(rt; shelf.read_below(None, 1)?.is_none());
     reads(rt, &shelf, rank(5, 0), 1, Ok(None));
     reads(rt, &shelf, rank(1, 0), 0, Ok(None));
-    reads(rt, &shelf, rank(1, 0), 1, Ok(Some((0, 0))));
-    reads(rt, &shelf, rank(1, 0), 2, Ok(Some((0, 1))));
-    reads(rt, &shelf, rank(1, 0), 3, Ok(Some((1, 0))));
+    reads(rt, &shelf, rank(1, 0), 1, Ok(Some(rank(0, 0))));
+    reads(rt, &shelf, rank(1, 0), 2, Ok(Some(rank(0, 1))));
+    reads(rt, &shelf, rank(1, 0), 3, Ok(Some(rank(1, 0))));
     reads(rt, &shelf, rank(1, 0), 4, Ok(None));
     reads(rt, &shelf, rank(0, 1), 9, Ok(None));
-    reads(rt, &shelf, rank(2, 0), 5, Ok(Some((2, 0))));
+    reads(rt, &shelf, rank(2, 0), 5, Ok(Some(rank(2, 0))));
     reads(rt, &shelf, rank(2, 0), 3, BROKEN);
     reads(rt, &shelf, rank(3, 0), 3, BROKEN);
-    reads(rt, &shelf, rank(4, 0), 6, Ok(Some((4, 1))));
+    reads(rt, &shelf, rank(4, 0), 6, Ok(Some(rank(4, 1))));
     reads(rt, &shelf, rank(4, 0), 1, BROKEN);
     assert_eq!(rt; shelf.top_turn(4), Some(1));
     Ok(())

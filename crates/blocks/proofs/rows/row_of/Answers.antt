@@ -1,25 +1,27 @@
-use Rattle.std.proofs.Common.{◌++◌, take, ap, ◌∙◌, append-nil}
+use Rattle.std.proofs.Common.{length, take, ◌∙◌, ap, arith, ◌≤◌}
+use Rattle.std.proofs.lemmas.Iterator.{YieldsList, YieldsList-from_take}
+use Rattle.std.proofs.lemmas.Iterator.Consumers.{YieldsList-at, YieldsList-from_enumerate, YieldsList-turn, YieldsList-end}
+use Rattle.std.proofs.lemmas.List.FromFn.{length-enumerate_from}
 use Rattle.std.proofs.lemmas.List.{take_all}
 use Rattle.blocks.specs.Keeping.{padded}
-use Rattle.blocks.specs.Masks.{row_kept}
-use Rattle.blocks.proofs.Keeping.{poured_none, poured_as, row_more, row_one}
+use Rattle.blocks.proofs.Keeping.{byte_poured, padded-cut, padded-none}
 use Rattle.blocks.proofs.rows.row_of.Goals as goal
-use Rattle.blocks.proofs.rows.row_of.Goals.{in-Some, in_default}
 
-pub loop-i-init : goal.loop-i-init
-loop-i-init g c = poured_none
+pub loop-at-init : goal.loop-at-init
+loop-at-init g c xs y = padded-none 512
 
-pub loop-i-preserved : goal.loop-i-preserved
-loop-i-preserved g c =
-    let slot = c.index-slots-i.result in
-    let more = row_more c.args.slots.now c.loop-i.i slot c.loop-i-test.true c.index-slots-i.is in
-    let before = row_kept (take c.loop-i.i c.args.slots.now) in
-    elim c.match-slots-i.branch [
-      | in-Some w ↦ poured_as (more ∙ ap (λ s. before ++ row_one s) w.in-Some.is) w.row-is w.at-is (w.pour.ensures.more before c.loop-i.invariant)
-      | in_default w ↦ poured_as (more ∙ ap (λ s. before ++ row_one s) w.in_default.is ∙ append-nil before) w.row-is w.at-is c.loop-i.invariant
-    ]
+pub loop-at-preserved : goal.loop-at-preserved
+loop-at-preserved g c xs y =
+    let given : YieldsList g.I.Iterator.next_gives (λ b. b.now) c.args.bytes xs = record { runs = y } in
+    let road = YieldsList-from_enumerate {s = c.into_iter-at-iterator.result} (YieldsList-from_take 512 (YieldsList-at (cc) given) cc) cc in
+    let turn = YieldsList-turn road
+    c.loop-at.yielded c.loop-at.at-iterator c.loop-at.yielded_by c.next.result c.next.new.self (c.in-Some.at, c.in-Some.byte) c.in-Some.is c.next.ensures.steps in
+    byte_poured (take 512 xs) c.loop-at.row c.in-Some.at c.in-Some.byte.now c.loop-at.yielded (c.in-Some.at, c.in-Some.byte) turn.0 turn.1 (c.loop-at.invariant xs y)
 
 pub returns : goal.returns
-returns g c =
-    c.loop-i.invariant.is
-    ∙ ap (λ kept. padded 512 (row_kept kept)) (take_all c.loop-i.i c.args.slots.now c.loop-i-test.false)
+returns g c xs y =
+    let given : YieldsList g.I.Iterator.next_gives (λ b. b.now) c.args.bytes xs = record { runs = y } in
+    let road = YieldsList-from_enumerate {s = c.into_iter-at-iterator.result} (YieldsList-from_take 512 (YieldsList-at (cc) given) cc) cc in
+    let end = YieldsList-end road c.loop-at.yielded c.loop-at.at-iterator c.loop-at.yielded_by c.next.result c.next.new.self c.in-None.is c.next.ensures.steps in
+    let all : length (take 512 xs) ≤ length c.loop-at.yielded = omega (arith, end.1, length-enumerate_from 0 (take 512 xs)) in
+    c.loop-at.invariant xs y ∙ ap (padded 512) (take_all (length c.loop-at.yielded) (take 512 xs) all) ∙ padded-cut 512 xs

@@ -1,7 +1,8 @@
-use Rattle.std.proofs.Common.{take}
-use Rattle.blocks.specs.Keeping.{Poured}
-use Rattle.blocks.specs.Masks.{row_kept}
+use Rattle.std.proofs.Common.{◌≡◌, ℕ, List, length, take}
+use Rattle.std.specs.Iterator.{AlwaysYields}
+use Rattle.blocks.specs.Keeping.{padded}
 use Rattle.blocks.proofs.rows.row_of.Given as goal
 
-abbrev pub invariant-loop-i : goal.invariant-loop-i
-invariant-loop-i g l = Poured (row_kept (take l.i l.slots)) l.row l.at
+abbrev pub invariant-loop-at : goal.invariant-loop-at
+invariant-loop-at g l =
+    (xs : List ℕ) → AlwaysYields g.I.Iterator.next_gives {B = ℕ} (λ b. b.now) l.fn.bytes xs → l.row ≡ padded 512 (take (length l.yielded) (take 512 xs))

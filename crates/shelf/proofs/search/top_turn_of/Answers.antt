@@ -1,24 +1,17 @@
-use Rattle.std.proofs.Common.{refl, ap, ◌∙◌}
-use Rattle.std.proofs.lemmas.List.{take_all}
-use Rattle.shelf.proofs.Scans.{top_taken, top_left}
-use Rattle.shelf.specs.Blocks.{top_turn}
+use Rattle.std.proofs.Common.{rules, tests, sym, ◌∙◌, eqb}
+use Rattle.std.proofs.lemmas.Iterator.{YieldsList-from_slice, YieldsList-from_map}
+use Rattle.std.proofs.lemmas.Iterator.Adapters.{option_map_id}
+use Rattle.std.proofs.lemmas.Iterator.Consumers.{YieldsList-at, YieldsList-from_filter, max_from_yields_List}
+use Rattle.shelf.proofs.Scans.{same_top}
 use Rattle.shelf.proofs.search.top_turn_of.Goals as goal
-use Rattle.shelf.proofs.search.top_turn_of.Goals.{then-block-view, else-block-view}
-
-pub loop-block-preserved : goal.loop-block-preserved
-loop-block-preserved g c =
-    elim c.if-block-view.branch [
-      | then-block-view w ↦
-          w.top-is ∙ (w.higher_turn.ensures ∙ top_taken c.args.view c.args.blocks.now c.loop-block.block-index c.block-item.result c.loop-block.top
-          c.loop-block-test.true c.block-item.is c.loop-block.invariant w.if-block-view.true)
-      | else-block-view w ↦
-          w.top-is ∙ (c.loop-block.invariant ∙ top_left c.args.view c.args.blocks.now c.loop-block.block-index c.block-item.result
-          c.loop-block-test.true c.block-item.is w.if-block-view.false)
-    ]
-
-pub loop-block-init : goal.loop-block-init
-unfolding top_turn
-loop-block-init g c = refl
 
 pub returns : goal.returns
-returns g c = c.loop-block.invariant ∙ ap (top_turn c.args.view) (take_all c.loop-block.block-index c.args.blocks.now c.loop-block-test.false)
+returns g c =
+    sym (option_map_id _)
+    ∙ max_from_yields_List c.map.result _ c.max.ensures.ran
+    (YieldsList-from_map _ (λ b. b.rank.turn)
+    (YieldsList-at c.map.ensures.source
+    (YieldsList-from_filter _ (λ b. eqb b.rank.view c.args.view)
+    (YieldsList-at c.filter.ensures.source (YieldsList-from_slice c.args.blocks.now cc)) c.filter.ensures.closure (λ x r q k. search (rules, tests))))
+    c.map.ensures.closure (λ x r q k. search rules))
+    ∙ same_top c.args.view c.args.blocks.now
