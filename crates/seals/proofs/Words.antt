@@ -1,8 +1,10 @@
 -- How the words of a message come apart.
-use Rattle.std.proofs.Common.{◌≡◌, ℕ, suc, ◌+◌, ◌*◌, ◌/◌, ◌%◌, ◌^◌, ◌<◌, ◌≤◌, List, ◌∷◌, length, take, drop, sym, refl, ap, ◌∙◌, add-one, arith, lit<, length-drop}
+use Rattle.std.proofs.Common.{◌≡◌, ℕ, zero, suc, ◌+◌, ◌*◌, ◌/◌, ◌%◌, ◌^◌, ◌<◌, ◌≤◌, List, [], ◌∷◌, ◌++◌, length, take, drop, replicate, refl, ap, ◌∙◌, add-one, arith, lit<, length-drop, drop-drop}
 use native.Mathlib.Nat.{pow-le-pow_right}
+use Rattle.std.specs.List.{fold}
+use Rattle.std.specs.Simd.{first_chunks}
 use Rattle.content.specs.Numbers.{number}
-use Rattle.seals.specs.SipHash.{start, compress, absorb_rest, finish, sip_hash}
+use Rattle.seals.specs.SipHash.{start, compress, absorb, words_of, absorb_rest, finish, sip_hash}
 use Rattle.seals.specs.declared.siphash.State.{State}
 
 -- what fits into k bytes fits into more
@@ -23,16 +25,23 @@ word-last s len rest h =
     let e : length rest / 8 ≡ 0 = omega arith in
     rw e refl
 
--- a turn of the loop: the word before, the state and the rest after it
-pub word_again : (s t : State) (len word : ℕ) (rest front back : List ℕ) (all : State) → 8 ≤ length rest → front ≡ take 8 rest → back ≡ drop 8 rest → word ≡ number front → t ≡ compress s word → absorb_rest s len rest ≡ all → absorb_rest t len back ≡ all
-word_again s t len word rest front back all h f b w e i =
-    let m = word_more s len rest h in
-    cc
+-- all the words of eight bytes go in, and then what is left over
+pub words_fold : (k : ℕ) (s : State) (len : ℕ) (rest : List ℕ) → absorb s (words_of k len rest) ≡ compress (fold (λ t word. compress t (number word)) s (first_chunks 8 k rest)) (number (drop (k * 8) rest) + len % 256 * 2 ^ 56)
+words_fold zero s len rest = refl
+words_fold (suc k) s len rest =
+    let e : drop (k * 8) (drop 8 rest) ≡ drop (suc k * 8) rest = drop-drop (k * 8) 8 rest ∙ ap (λ (n : ℕ). drop n rest) (omega arith) in
+    rw (← e) (words_fold k (compress s (number (take 8 rest))) len (drop 8 rest))
 
--- after the loop
-pub word_end : (s all : State) (len part r : ℕ) (rest : List ℕ) → length rest < 8 → part ≡ number rest → absorb_rest s len rest ≡ all → r ≡ finish (compress s (part + len % 256 * 2 ^ 56)) → r ≡ finish all
-word_end s all len part r rest h p i e =
-    e ∙ ap finish (ap (λ (n : ℕ). compress s (n + len % 256 * 2 ^ 56)) p ∙ sym (word-last s len rest h) ∙ i)
+-- zeros behind bytes alter no number
+zeros_alone : (k n : ℕ) → number (drop n (replicate k 0)) ≡ 0
+zeros_alone zero zero = refl
+zeros_alone zero (suc n) = refl
+zeros_alone (suc k) zero = let e = zeros_alone k 0 in omega arith
+zeros_alone (suc k) (suc n) = zeros_alone k n
+
+pub zeros_behind : (xs : List ℕ) (k n : ℕ) → number (xs ++ drop n (replicate k 0)) ≡ number xs
+zeros_behind [] k n = zeros_alone k n
+zeros_behind (x ∷ xs) k n = ap (λ (m : ℕ). x + 256 * m) (zeros_behind xs k n)
 
 -- the hash of a tag byte and a body: too short for a whole word, or with a first word of seven bytes beside the tag
 pub sip_short : (key body : List ℕ) (tag part r : ℕ) (s : State) → length body < 7 → s ≡ start key → part ≡ number (tag ∷ body) → r ≡ finish (compress s (part + (length body + 1) % 256 * 2 ^ 56)) → r ≡ sip_hash key (tag ∷ body)

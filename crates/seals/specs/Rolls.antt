@@ -1,17 +1,17 @@
 -- The roll: a list of the seals that are good.
-use Rattle.std.specs.Prelude.{◌≡◌, ℕ, Bool, false, ◌&&◌, ◌||◌, T, ◌⊎◌, List, [], ◌∷◌, length, Decides, ◌==◌}
+use Rattle.std.specs.Prelude.{◌≡◌, ℕ, Bool, ◌&&◌, T, ◌⊎◌, List, [], ◌∷◌, length, Decides, ◌==◌}
 use Rattle.std.proofs.Common.{eqb→eq}
+use Rattle.std.specs.List.{list_any}
 use Rattle.std.specs.Str.{bytes_eq}
 use Rattle.seals.specs.Checks.{and_left}
 use Rattle.seals.specs.declared.roll.RollLine.{RollLine}
 
--- a line is this seat's, on this statement, with this seal
+-- a line is this seat's, on this statement, with this seal; and one of the lines is
 abbrev pub is_line : RollLine → ℕ → List ℕ → List ℕ → Bool
 is_line line seat statement seal = line.seat == seat && (bytes_eq line.statement.now statement && bytes_eq line.seal seal)
 
 abbrev pub listed : List RollLine → ℕ → List ℕ → List ℕ → Bool
-listed [] seat statement seal = false
-listed (line ∷ lines) seat statement seal = is_line line seat statement seal || listed lines seat statement seal
+listed lines seat statement seal = list_any (λ line. is_line line seat statement seal) lines
 
 -- the roll says yes to the lines of its list, whose seals have eight bytes
 abbrev pub roll_accepts : List RollLine → ℕ → List ℕ → List ℕ → Bool

@@ -4,7 +4,6 @@ ghost use Rattle.rota.specs.Limits.{MadeWithin};
 ghost use Rattle.seals.specs.Checks.{eight};
 ghost use Rattle.seals.specs.House.{keys_lawful, house_seal, is_seal, house_accepts, house_sized, OneGoodSeal};
 
-use crate::bytes::same_bytes;
 use crate::check::SealCheck;
 use crate::siphash::{KEY_LENGTH, hash_under};
 use content::refusal::Refusal;
@@ -24,7 +23,7 @@ impl<'a> HouseSeals<'a> {
     pub fn new(keys: &'a [u8], n: u8) -> Result<HouseSeals<'a>, Refusal>
         ensures { MadeWithin (keys_lawful n keys.now) (λ v. v.keys.now ≡ keys.now) result }
     {
-        if !(seats_in_limits(n) & (keys.len() == KEY_LENGTH * n as usize)) {
+        if !(seats_in_limits(n) && keys.len() == KEY_LENGTH * n as usize) {
             return Err(Refusal::OutOfLimits);
         }
         Ok(HouseSeals { keys })
@@ -36,28 +35,16 @@ impl<'a> HouseSeals<'a> {
         ensures seal { result ≡ house_seal self.now.keys.now seat (tag ∷ body.now) }
         ensures alone { house_accepts self.now.keys.now seat (tag ∷ body.now) ≡ is_seal result }
     {
-        seal_of(self.keys, seat, tag, body)
+        let (keys, _) = self.keys.as_chunks::<KEY_LENGTH>();
+        let key = keys.get(seat as usize)?;
+        Some(hash_under(key, tag, body).to_le_bytes())
     }
 }
 
 // That a seal is good exactly if it is the one that the signing box makes.
-pub fn one_good_seal() -> u8
+pub fn one_good_seal()
     ensures { OneGoodSeal }
-{
-    0
-}
-
-// The seal under the seat's key in the row, if it has one.
-fn seal_of(keys: &[u8], seat: u8, tag: u8, body: &[u8]) -> Option<[u8; HouseSeals::SEAL_LENGTH]>
-    ensures { result ≡ house_seal keys.now seat (tag ∷ body.now) }
-{
-    let at = KEY_LENGTH * seat as usize;
-    let end = at + KEY_LENGTH;
-    if keys.len() < end {
-        return None;
-    }
-    Some(hash_under(&keys[at..end], tag, body).to_le_bytes())
-}
+{}
 
 impl<'a> SealCheck<{ HouseSeals::SEAL_LENGTH }> for HouseSeals<'a> {
     ghost lengths = { eight };
@@ -67,9 +54,6 @@ impl<'a> SealCheck<{ HouseSeals::SEAL_LENGTH }> for HouseSeals<'a> {
     ghost sized = { λ c. house_sized c.keys.now };
 
     fn check(&mut self, seat: u8, tag: u8, body: &[u8], seal: &[u8]) -> bool {
-        match self.sign(seat, tag, body) {
-            Some(good) => same_bytes(&good, seal),
-            None => false,
-        }
+        matches!(self.sign(seat, tag, body), Some(good) if good[..] == seal[..])
     }
 }

@@ -2,7 +2,6 @@
 #![tactic(auto)]
 
 pub mod asked;
-mod bytes;
 pub mod check;
 pub mod house;
 pub mod roll;

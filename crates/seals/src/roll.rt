@@ -3,7 +3,7 @@ ghost use Rattle.std.specs.Prelude.{◌≡◌, ◌∷◌};
 ghost use Rattle.seals.specs.Checks.{eight};
 ghost use Rattle.seals.specs.Rolls.{is_line, listed, roll_accepts, roll_sized, OnlyItsLines};
 
-use crate::bytes::{is_statement, same_bytes};
+use crate::asked::Question;
 use crate::check::SealCheck;
 
 // A good seal of a seat on a statement, which is a tag byte and then a body.
@@ -30,6 +30,13 @@ impl<'a, 's> Roll<'a, 's> {
     {
         Roll { lines }
     }
+
+    // Whether one of the lines is the one that the question asks for.
+    fn lists(&self, q: Question) -> bool
+        ensures { result ≡ listed self.now.lines.now q.entry.seat (q.entry.tag ∷ q.entry.body.now) q.entry.seal.now }
+    {
+        self.lines.iter().any(|line| line.is(q))
+    }
 }
 
 impl<'s> RollLine<'s> {
@@ -46,33 +53,18 @@ impl<'s> RollLine<'s> {
         }
     }
 
-    // Whether this is the line of that seat, statement and seal.
-    fn is(&self, seat: u8, tag: u8, body: &[u8], seal: &[u8]) -> bool
-        ensures { result ≡ is_line self.now seat (tag ∷ body.now) seal.now }
+    // Whether this is the line that the question asks for.
+    fn is(&self, q: Question) -> bool
+        ensures { result ≡ is_line self.now q.entry.seat (q.entry.tag ∷ q.entry.body.now) q.entry.seal.now }
     {
-        (self.seat == seat)
-            & (is_statement(self.statement, tag, body) & same_bytes(&self.seal, seal))
+        self.seat == q.seat && q.is_on(self.statement) && self.seal[..] == q.seal[..]
     }
 }
 
 // That the roll says yes exactly for the lines of its list.
-pub fn only_its_lines() -> u8
+pub fn only_its_lines()
     ensures { OnlyItsLines }
-{
-    0
-}
-
-// Whether one of the lines is.
-fn any_is(lines: &[RollLine], seat: u8, tag: u8, body: &[u8], seal: &[u8]) -> bool
-    ensures { result ≡ listed lines.now seat (tag ∷ body.now) seal.now }
-{
-    for line in lines {
-        if line.is(seat, tag, body, seal) {
-            return true;
-        }
-    }
-    false
-}
+{}
 
 impl<'a, 's> SealCheck<{ Roll::SEAL_LENGTH }> for Roll<'a, 's> {
     ghost lengths = { eight };
@@ -82,6 +74,12 @@ impl<'a, 's> SealCheck<{ Roll::SEAL_LENGTH }> for Roll<'a, 's> {
     ghost sized = { λ c. roll_sized c.lines.now };
 
     fn check(&mut self, seat: u8, tag: u8, body: &[u8], seal: &[u8]) -> bool {
-        (seal.len() == Roll::SEAL_LENGTH) & any_is(self.lines, seat, tag, body, seal)
+        let q = Question {
+            seat,
+            tag,
+            body,
+            seal,
+        };
+        seal.len() == Roll::SEAL_LENGTH && self.lists(q)
     }
 }

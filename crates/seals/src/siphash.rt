@@ -1,5 +1,6 @@
 // SipHash-2-4, a keyed hash of 64 bits: eight bytes at a time, and what is left over with the length.
 ghost use Rattle.std.specs.Prelude.{◌≡◌, ◌+◌, ◌*◌, ◌%◌, ◌^◌, ◌<◌, ◌∷◌, length};
+ghost use Rattle.std.specs.List.{fold};
 ghost use Rattle.content.specs.Numbers.{number};
 ghost use Rattle.seals.specs.SipHash.{sip_round, sip_rounds, start, compress, absorb_rest, finish, sip_hash, rising};
 
@@ -16,13 +17,12 @@ struct State {
 }
 
 impl State {
-    // The state that a key of 16 bytes begins with.
-    fn new(key: &[u8]) -> State
-        requires { length key.now ≡ 16 }
+    // The state that a key begins with.
+    fn new(key: &[u8; KEY_LENGTH]) -> State
         ensures { result ≡ start key.now }
     {
-        let (low, high) = key.split_at(8);
-        let (k0, k1) = (whole_word(low), whole_word(high));
+        let (halves, _) = key.as_chunks::<8>();
+        let (k0, k1) = (whole_word(&halves[0]), whole_word(&halves[1]));
         State {
             v0: k0 ^ 0x736f6d6570736575,
             v1: k1 ^ 0x646f72616e646f6d,
@@ -48,6 +48,7 @@ impl State {
         }
     }
 
+    #[tactic(auto, unfolding(crate::specs::SipHash::sip_rounds))]
     fn rounds(self, count: u8) -> State
         ensures { result ≡ sip_rounds count self }
     {
@@ -91,18 +92,21 @@ impl State {
         self.compress(part + (((size % 256) as u64) << 56)).finish()
     }
 
+    // Takes in these words of eight bytes.
+    fn compress_all(self, words: &[[u8; 8]]) -> State
+        ensures { result ≡ fold (λ state word. compress state (number word)) self words.now }
+    {
+        words
+            .iter()
+            .fold(self, |state, word| state.compress(whole_word(word)))
+    }
+
     // Takes in these last bytes of a message of this size, and answers.
     fn absorb(self, bytes: &[u8], size: usize) -> u64
         ensures { result ≡ finish (absorb_rest self size bytes.now) }
     {
-        let mut state = self;
-        let mut rest = bytes;
-        while rest.len() >= 8 {
-            let (word, after) = rest.split_at(8);
-            state = state.compress(whole_word(word));
-            rest = after;
-        }
-        state.close(part_word(rest), size)
+        let (words, rest) = bytes.as_chunks::<8>();
+        self.compress_all(words).close(part_word(rest), size)
     }
 }
 
@@ -121,57 +125,41 @@ pub fn published_example() -> u64
 }
 
 // The hash of the message that is a tag byte and then a body, which need not lie side by side.
-pub(crate) fn hash_under(key: &[u8], tag: u8, body: &[u8]) -> u64
-    requires { length key.now ≡ 16 }
+pub(crate) fn hash_under(key: &[u8; KEY_LENGTH], tag: u8, body: &[u8]) -> u64
     ensures { result ≡ sip_hash key.now (tag ∷ body.now) }
 {
     let state = State::new(key);
     let size = body.len() + 1;
-    if body.len() < 7 {
-        return state.close(short_word(tag, body), size);
+    match body.split_first_chunk::<7>() {
+        Some((first, rest)) => state.compress(first_word(tag, first)).absorb(rest, size),
+        None => state.close(first_word(tag, body), size),
     }
-    let (first, rest) = body.split_at(7);
-    state.compress(first_word(tag, first)).absorb(rest, size)
 }
 
 // The number of eight bytes.
-fn whole_word(bytes: &[u8]) -> u64
-    requires { length bytes.now ≡ 8 }
+#[tactic(auto, using(content::proofs::Numbers::from_le_64))]
+fn whole_word(bytes: &[u8; 8]) -> u64
     ensures { result ≡ number bytes.now }
 {
-    u64::from_le_bytes([
-        bytes[0], bytes[1], bytes[2], bytes[3], bytes[4], bytes[5], bytes[6], bytes[7],
-    ])
+    u64::from_le_bytes(*bytes)
 }
 
-// The number of a tag byte and seven bytes after it.
-fn first_word(tag: u8, bytes: &[u8]) -> u64
-    requires { length bytes.now ≡ 7 }
-    ensures { result ≡ number (tag ∷ bytes.now) }
-{
-    u64::from_le_bytes([
-        tag, bytes[0], bytes[1], bytes[2], bytes[3], bytes[4], bytes[5], bytes[6],
-    ])
-}
-
-// The number of fewer than eight bytes.
+// The number of fewer than eight bytes: zeros behind them alter nothing.
 fn part_word(bytes: &[u8]) -> u64
     requires { length bytes.now < 8 }
     ensures value { result ≡ number bytes.now }
     ensures room { result < 256 ^ length bytes.now }
 {
-    let mut word = 0;
-    for i in (0..bytes.len()).rev() {
-        word = word * 256 + bytes[i] as u64;
-    }
-    word
+    let mut word = [0; 8];
+    word[..bytes.len()].copy_from_slice(bytes);
+    whole_word(&word)
 }
 
-// The number of a tag byte and fewer than seven bytes after it.
-fn short_word(tag: u8, bytes: &[u8]) -> u64
-    requires { length bytes.now < 7 }
+// The number of a tag byte and at most seven bytes after it.
+fn first_word(tag: u8, bytes: &[u8]) -> u64
+    requires { length bytes.now < 8 }
     ensures value { result ≡ number (tag ∷ bytes.now) }
-    ensures room { result < 2 ^ 56 }
+    ensures room { result < 256 ^ (length bytes.now + 1) }
 {
     tag as u64 + 256 * part_word(bytes)
 }
