@@ -36,7 +36,8 @@ impl<R> Block<R> {
     }
 }
 
-// Whether two blocks are equal: their numbers, and the bytes of their contents.
+// Whether two blocks are equal: their numbers, and the bytes of their contents. It is not a derived ==, since
+// contents are equal where their bytes are.
 pub fn same_block<const L: usize, C: Content<L>>(a: &Block<C::Record>, b: &Block<C::Record>) -> bool
     ensures { result ≡ same_block C.Content.kind a.now b.now }
 {

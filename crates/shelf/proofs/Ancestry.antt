@@ -1,6 +1,7 @@
 -- Looking up after more was stored; steps from parent to parent; and that a grown shelf has every ancestor of its blocks.
 use Rattle.std.proofs.Common.{◌≡◌, ℕ, zero, suc, ◌+◌, ◌<◌, ◌≤◌, true, eqb, ◌⊎◌, List, [], ◌∷◌, ◌++◌, Some, None, Ok, Err, Option, Result, sym, refl, ap, ◌∙◌, subst, inl, inr, zero-add, arith}
 use Rattle.std.proofs.lemmas.List.{append_assoc, append-nil}
+use Rattle.std.proofs.lemmas.Option.{none-some, same_Some}
 use Rattle.std.proofs.lemmas.Bool.{cases_Bool, cond-true, cond-false, and_parts, eqb-true, eq-eqb}
 use Rattle.content.specs.declared.refusal.Refusal.{Refusal}
 use Rattle.content.specs.declared.refusal.Refusal.TheVariants.{BrokenShelf}
@@ -20,12 +21,6 @@ same-ranks a b e =
     λ i. record { view = v i; turn = t i }
 
 module _ {R : Type 0} where
-  some_same : (x y : Block R) → Some x ≡ Some y → x ≡ y
-  some_same x y e = cc
-
-  none-some : (x : Block R) → None ≡ Some x → ⊥
-  none-some x e = let z : ◌≡◌ {A = ℕ} 0 1 = cc in omega arith
-
   ok_same : (x y : Block R) → ◌≡◌ {A = Result (Block R) Refusal} (Ok x) (Ok y) → x ≡ y
   ok_same x y e = cc
 
@@ -37,7 +32,7 @@ module _ {R : Type 0} where
   find-rank r [] b e = absurd (none-some b (sym (find_none r) ∙ e))
   find-rank r (x ∷ bs) b e =
       elim (cases_Bool (same_rank x.rank r)) [
-        | inl t ↦ ap (λ (y : Block R). y.rank) (sym (some_same x b (sym (find-here r x bs t) ∙ e))) ∙ same-ranks x.rank r t
+        | inl t ↦ ap (λ (y : Block R). y.rank) (sym (same_Some x b (sym (find-here r x bs t) ∙ e))) ∙ same-ranks x.rank r t
         | inr f ↦ find-rank r bs b (sym (find_past r x bs f) ∙ e)
       ]
 
@@ -111,7 +106,7 @@ module _ {R : Type 0} where
   only_one : (r : Rank) (b x : Block R) → find r (b ∷ []) ≡ Some x → x ≡ b
   only_one r b x e =
       elim (cases_Bool (same_rank b.rank r)) [
-        | inl t ↦ some_same x b (sym e ∙ find-here r b [] t)
+        | inl t ↦ same_Some x b (sym e ∙ find-here r b [] t)
         | inr f ↦ absurd (none-some x (sym (find_past r b [] f ∙ find_none r) ∙ e))
       ]
 

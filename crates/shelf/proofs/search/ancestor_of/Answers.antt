@@ -1,7 +1,5 @@
-use Rattle.std.proofs.Common.{◌-◌, sym, ap, ◌∙◌, arith}
-use native.Mathlib.Nat.{sub-zero}
+use Rattle.std.proofs.Common.{◌-◌, sym, ◌∙◌, arith}
 use Rattle.std.proofs.lemmas.Result.{err_from_is_err_and}
-use Rattle.shelf.specs.Blocks.{climb}
 use Rattle.shelf.proofs.Scans.{climb-on, climb-fails, climb-none}
 use Rattle.shelf.proofs.search.ancestor_of.Goals as goal
 
@@ -9,9 +7,6 @@ pub loop-preserved : goal.loop-preserved
 loop-preserved g c =
     climb-on c.args.steps c.loop.counter c.args.blocks.now c.loop.at.now c.in_ok-at.at.now c.loop-test.true c.in_ok-at.ensures
     ∙ c.loop.invariant
-
-pub loop-init : goal.loop-init
-loop-init g c = ap (λ k. climb k c.args.blocks.now c.args.block.now) (sub-zero c.args.steps)
 
 pub returns-in_err-at : goal.returns-in_err-at
 returns-in_err-at g c =
