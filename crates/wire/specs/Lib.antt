@@ -1,4 +1,5 @@
 pub mod Asked
+pub mod Kinds
 pub mod Lawful
 pub mod Laws
 pub mod Layout
