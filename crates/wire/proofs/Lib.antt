@@ -1,5 +1,4 @@
 pub mod Bodies
-pub mod Judging
 pub mod Located
 pub mod Lengths
 pub mod Made

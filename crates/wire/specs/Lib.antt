@@ -6,4 +6,5 @@ pub mod Layout
 pub mod Making
 pub mod Meaning
 pub mod Reading
+pub mod Statements
 pub mod Writing

@@ -5,7 +5,7 @@ ghost use Rattle.wire.specs.Meaning.{plain, plain_parent, plain_certificate};
 ghost use Rattle.wire.specs.Writing.{Put, body_size, parent_size, message_size, write_end, write_out, outbox_end, outbox_out};
 ghost use Rattle.wire.specs.declared.message.Parts.TheVariants.{Proposal, Vote, Blame, Certified, Notice};
 
-use crate::message::{Certificate, Message, Parts};
+use crate::message::{Certificate, Message, MessageKind, Parts};
 use blocks::block::Block;
 use content::kind::Content;
 use content::refusal::Refusal;
@@ -62,7 +62,7 @@ fn put_proposal<const L: usize, C: Content<L>>(
     ensures bytes { Put out.old at (message_bytes C.Content.kind (Proposal block.now seal.now (plain_parent parent.now))) out.new result }
     ensures size { result ≡ at + 13 + L + length seal.now + parent_size L (plain_parent parent.now) }
 {
-    let at = put(&[1], out, at);
+    let at = put(&[MessageKind::Proposal as u8], out, at);
     let at = put_block::<L, C>(block, out, at);
     let at = put(seal, out, at);
     match parent {
@@ -82,7 +82,7 @@ fn put_vote<const L: usize, C: Content<L>>(
     ensures bytes { Put out.old at (message_bytes C.Content.kind (Vote seat block.now seal.now)) out.new result }
     ensures size { result ≡ at + 14 + L + length seal.now }
 {
-    let at = put(&[2, seat], out, at);
+    let at = put(&[MessageKind::Vote as u8, seat], out, at);
     let at = put_block::<L, C>(block, out, at);
     put(seal, out, at)
 }
@@ -98,7 +98,7 @@ fn put_blame<const L: usize, C: Content<L>>(
     ensures bytes { Put out.old at (message_bytes C.Content.kind (Blame seat view seal.now)) out.new result }
     ensures size { result ≡ at + 4 + length seal.now }
 {
-    let at = put(&[3, seat], out, at);
+    let at = put(&[MessageKind::Blame as u8, seat], out, at);
     let at = put(&view.to_le_bytes(), out, at);
     put(seal, out, at)
 }
@@ -112,7 +112,7 @@ fn put_certified<const L: usize, C: Content<L>>(
     ensures bytes { Put out.old at (message_bytes C.Content.kind (Certified (plain_certificate c.now))) out.new result }
     ensures size { result ≡ at + 1 + body_size L (plain_certificate c.now) }
 {
-    let at = put(&[4], out, at);
+    let at = put(&[MessageKind::Certified as u8], out, at);
     put_body::<L, C>(c, out, at)
 }
 
@@ -127,7 +127,7 @@ fn put_notice<const L: usize, C: Content<L>>(
     ensures bytes { Put out.old at (message_bytes C.Content.kind (Notice view mask seals.now)) out.new result }
     ensures size { result ≡ at + 5 + length seals.now }
 {
-    let at = put(&[5], out, at);
+    let at = put(&[MessageKind::Notice as u8], out, at);
     let at = put(&view.to_le_bytes(), out, at);
     let at = put(&mask.to_le_bytes(), out, at);
     put(seals, out, at)
