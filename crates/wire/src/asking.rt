@@ -43,7 +43,7 @@ fn ask<const S: usize, K: SealCheck<S>>(
     Ok(())
 }
 
-// Asks about a row of seals on one statement, by rising seat.
+// Asks about a row of seals on one statement, by rising seat: a loop, since each seal can end it.
 fn ask_row<const S: usize, K: SealCheck<S>>(
     seats: SeatCount,
     check: &mut K,
@@ -75,7 +75,8 @@ fn part(bytes: &[u8], at: usize, len: usize) -> &[u8]
     &bytes[at..at + len]
 }
 
-// The body of every statement on a block is the block's bytes in the message.
+// The body of every statement on a block is the block's bytes in the message. The rota and the check are the caller's,
+// and are handed on as they came: a struct of them would be made for this one call.
 fn ask_proposal<'a, const L: usize, const S: usize, C: Content<L>, Q: Rota, K: SealCheck<S>>(
     seats: SeatCount,
     bytes: &[u8],
@@ -91,7 +92,13 @@ fn ask_proposal<'a, const L: usize, const S: usize, C: Content<L>, Q: Rota, K: S
     ensures kept { K.SealCheck.accepts check.new ≡ K.SealCheck.accepts check.old }
 {
     let leader = rota.leader(block.rank.view);
-    ask::<S, K>(check, leader, Statement::Proposal, part(bytes, 1, 12 + L), seal)?;
+    ask::<S, K>(
+        check,
+        leader,
+        Statement::Proposal,
+        part(bytes, 1, 12 + L),
+        seal,
+    )?;
     match parent {
         None => Ok(()),
         Some(c) => ask_row::<S, K>(
@@ -127,12 +134,32 @@ fn ask_all<'a, const L: usize, const S: usize, C: Content<L>, Q: Rota, K: SealCh
         Parts::Vote { seat, seal, .. } => {
             ask::<S, K>(check, *seat, Statement::Vote, part(bytes, 2, 12 + L), *seal)
         }
-        Parts::Blame { seat, seal, .. } => ask::<S, K>(check, *seat, Statement::Blame, part(bytes, 2, 2), *seal),
+        Parts::Blame { seat, seal, .. } => ask::<S, K>(
+            check,
+            *seat,
+            Statement::Blame,
+            part(bytes, 2, 2),
+            *seal,
+        ),
         Parts::Certified(c) => {
-            ask_row::<S, K>(seats, check, c.mask, Statement::Vote, part(bytes, 1, 12 + L), c.seals)
+            ask_row::<S, K>(
+                seats,
+                check,
+                c.mask,
+                Statement::Vote,
+                part(bytes, 1, 12 + L),
+                c.seals,
+            )
         }
         Parts::Notice { mask, seals, .. } => {
-            ask_row::<S, K>(seats, check, *mask, Statement::Blame, part(bytes, 1, 2), *seals)
+            ask_row::<S, K>(
+                seats,
+                check,
+                *mask,
+                Statement::Blame,
+                part(bytes, 1, 2),
+                *seals,
+            )
         }
     }
 }

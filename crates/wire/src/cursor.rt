@@ -103,7 +103,7 @@ impl<'a> Cursor<'a> {
         Ok(mask)
     }
 
-    // A quorum of seals of S bytes in a row, as they lie; the first that does not fit is the field that is short.
+    // As many seals of S bytes in a row, as they lie: a loop, since the first that does not fit is the field that is short.
     pub(crate) fn seals<const S: usize>(&mut self, count: u8) -> Result<&'a [u8], Refusal>
         ensures value { taken_by bytes_of result self.new.rest.now ≡ peel_seals S count self.old.at self.old.rest.now }
         ensures end { OnOk result (self.new.at + length self.new.rest.now ≡ self.old.at + length self.old.rest.now) }

@@ -27,8 +27,7 @@ fn ok_if(test: bool, refusal: Refusal) -> Result<(), Refusal>
 // Any view lies in two bytes: its type says so, and who judges a message passes it on.
 fn held(view: u16)
     ensures { TwoBytes view }
-{
-}
+{}
 
 fn judge_block<const L: usize, C: Content<L>>(
     block: &Block<C::Record>,
@@ -48,6 +47,7 @@ fn judge_block<const L: usize, C: Content<L>>(
     )
 }
 
+// The seats and the offset are handed on as they are: a struct of the two would be made anew at every offset.
 fn judge_row<const S: usize>(
     seats: SeatCount,
     mask: u16,

@@ -15,10 +15,10 @@ pub(crate) fn lawful_numbers(rank: Rank, height: u32, parent: Rank) -> bool
         return false;
     }
     if height == 1 {
-        return (rank.turn == 0) & ((parent.view == 0) & (parent.turn == 0));
+        return rank.turn == 0 && parent.view == 0 && parent.turn == 0;
     }
     if rank.turn == 0 {
         return parent.view < rank.view;
     }
-    (parent.view == rank.view) & (parent.turn as u32 + 1 == rank.turn as u32)
+    parent.view == rank.view && parent.turn as u32 + 1 == rank.turn as u32
 }
