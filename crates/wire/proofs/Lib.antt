@@ -1,8 +1,7 @@
 pub mod Bodies
-pub mod FirstByte
-pub mod Judging
 pub mod Located
 pub mod Lengths
+pub mod Made
 pub mod OneForm
 pub mod Peeling
 pub mod Places

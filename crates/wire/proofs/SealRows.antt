@@ -33,3 +33,6 @@ row-taken S k at xs rest h =
     let n : length rest + k * S ≡ length xs = seals_length S k at xs rest h in
     let m : length xs - length rest ≡ k * S = omega arith in
     rw (← h, m)
+
+pub row_short : (S k at : ℕ) (xs : List ℕ) (e : Refusal) → Err e ≡ seals_fit S k at xs → ◌≡◌ {A = Read (List ℕ)} (Err e) (peel_seals S k at xs)
+row_short S k at xs e h = rw (← h)

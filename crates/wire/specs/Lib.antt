@@ -1,8 +1,10 @@
 pub mod Asked
+pub mod Kinds
 pub mod Lawful
 pub mod Laws
 pub mod Layout
 pub mod Making
 pub mod Meaning
 pub mod Reading
+pub mod Statements
 pub mod Writing

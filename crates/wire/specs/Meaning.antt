@@ -27,6 +27,14 @@ abbrev pub left_of : Result Slice Refusal → Result (List ℕ) Refusal
 left_of (Ok s) = Ok s.now
 left_of (Err e) = Err e
 
+-- what was taken off the front, and what that leaves
+abbrev pub taken_by : {X Y : Type 0} → (X → Y) → Result X Refusal → List ℕ → Read Y
+taken_by f (Ok x) rest = Ok (f x, rest)
+taken_by f (Err e) rest = Err e
+
+abbrev pub taken : {X : Type 0} → Result X Refusal → List ℕ → Read X
+taken r rest = taken_by (λ x. x) r rest
+
 abbrev pub plain_certificate : {R : Type 0} → Certificate R Slice → Certificate R (List ℕ)
 plain_certificate c = record { block = c.block; mask = c.mask; seals = c.seals.now }
 

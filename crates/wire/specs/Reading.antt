@@ -9,6 +9,7 @@ use Rattle.wire.specs.Layout.{lawful_numbers}
 use Rattle.blocks.specs.Masks.{lawful_mask, quorum}
 use Rattle.blocks.specs.Ranks.{same_rank}
 use Rattle.blocks.specs.declared.block.Block.{Block}
+use Rattle.blocks.specs.declared.block.Rank.{Rank}
 use Rattle.wire.specs.declared.message.Certificate.{Certificate}
 use Rattle.wire.specs.declared.message.Parts.{Parts}
 use Rattle.wire.specs.declared.message.Parts.TheVariants.{Proposal, Vote, Blame, Certified, Notice}
@@ -47,6 +48,12 @@ seals_fit S (suc count) at xs =
 
 abbrev pub peel_seals : (S count at : ℕ) → List ℕ → Read (List ℕ)
 peel_seals S count at xs = next (seals_fit S count at xs) (λ rest. Ok (take (count * S) xs, rest))
+
+-- a view and a turn
+abbrev pub peel_rank : (at : ℕ) → List ℕ → Read Rank
+peel_rank at xs =
+    next (peel_number 2 at xs) (λ view.
+    next (peel_number 2 (at + 2) view.1) (λ turn. Ok (record { view = view.0; turn = turn.0 }, turn.1)))
 
 -- nothing may be left
 abbrev pub ended : {X : Type 0} → (total : ℕ) → X × List ℕ → Result X Refusal

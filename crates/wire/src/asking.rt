@@ -5,6 +5,7 @@ ghost use Rattle.wire.specs.Lawful.{LawfulParts};
 ghost use Rattle.wire.specs.Layout.{message_bytes};
 ghost use Rattle.blocks.specs.Masks.{ones};
 ghost use Rattle.wire.specs.Meaning.{plain, plain_parent, meant};
+ghost use Rattle.wire.specs.Statements.{tag_of};
 ghost use Rattle.wire.specs.declared.message.Parts.TheVariants.{Proposal};
 
 use crate::message::{Certificate, Message, Parts};
@@ -17,42 +18,49 @@ use content::refusal::Refusal;
 use rota::leaders::Rota;
 use seals::check::SealCheck;
 
+// What a seal states, by the byte in front of the body that it is on.
+#[derive(Clone, Copy)]
+enum Statement {
+    Proposal = 1,
+    Vote = 2,
+    Blame = 3,
+}
+
 // Asks about one seal.
 fn ask<const S: usize, K: SealCheck<S>>(
     check: &mut K,
     seat: u8,
-    tag: u8,
+    statement: Statement,
     body: &[u8],
     seal: &[u8],
 ) -> Result<(), Refusal>
-    ensures value { result ≡ judge (K.SealCheck.accepts check.old) (asked_one seat (tag ∷ body.now) seal.now ∷ []) }
+    ensures value { result ≡ judge (K.SealCheck.accepts check.old) (asked_one seat (tag_of statement ∷ body.now) seal.now ∷ []) }
     ensures kept { K.SealCheck.accepts check.new ≡ K.SealCheck.accepts check.old }
 {
-    if check.check(seat, tag, body, seal) {
-        Ok(())
-    } else {
-        Err(Refusal::BadSeal { seat })
+    if !check.check(seat, statement as u8, body, seal) {
+        return Err(Refusal::BadSeal { seat });
     }
+    Ok(())
 }
 
-// Asks about a row of seals on one statement, by rising seat.
+// Asks about a row of seals on one statement, by rising seat: a loop, since each seal can end it.
 fn ask_row<const S: usize, K: SealCheck<S>>(
-    n: u8,
+    seats: SeatCount,
     check: &mut K,
     mask: u16,
-    tag: u8,
+    statement: Statement,
     body: &[u8],
     row: &[u8],
 ) -> Result<(), Refusal>
-    requires { (n ≤ 16) × (ones mask 0 n * S ≡ length row.now) }
-    ensures value { result ≡ judge (K.SealCheck.accepts check.old) (row_asked S mask 0 n (tag ∷ body.now) row.now) }
+    requires { ones mask 0 seats.n * S ≡ length row.now }
+    ensures value { result ≡ judge (K.SealCheck.accepts check.old) (row_asked S mask 0 seats.n (tag_of statement ∷ body.now) row.now) }
     ensures kept { K.SealCheck.accepts check.new ≡ K.SealCheck.accepts check.old }
 {
     let mut rest = row;
-    for seat in 0..n {
+    for seat in 0..seats.get() {
         if has(mask, seat) {
             let (seal, next) = rest.split_at(S);
-            ask::<S, K>(check, seat, tag, body, seal)?;
+            ask::<S, K>(check, seat, statement, body, seal)?;
             rest = next;
         }
     }
@@ -67,9 +75,10 @@ fn part(bytes: &[u8], at: usize, len: usize) -> &[u8]
     &bytes[at..at + len]
 }
 
-// The body of every statement on a block is the block's bytes in the message.
+// The body of every statement on a block is the block's bytes in the message. The rota and the check are the caller's,
+// and are handed on as they came: a struct of them would be made for this one call.
 fn ask_proposal<'a, const L: usize, const S: usize, C: Content<L>, Q: Rota, K: SealCheck<S>>(
-    n: u8,
+    seats: SeatCount,
     bytes: &[u8],
     block: &Block<C::Record>,
     seal: &[u8],
@@ -77,21 +86,26 @@ fn ask_proposal<'a, const L: usize, const S: usize, C: Content<L>, Q: Rota, K: S
     rota: &Q,
     check: &mut K,
 ) -> Result<(), Refusal>
-    requires limit { n ≤ 16 }
     requires back { message_bytes C.Content.kind (Proposal block.now seal.now (plain_parent parent.now)) ≡ bytes.now }
-    requires lawful { LawfulParts C.Content.kind S n (Proposal block.now seal.now (plain_parent parent.now)) }
-    ensures value { result ≡ judge (K.SealCheck.accepts check.old) (asked C.Content.kind S n (Q.Rota.leads rota.now) (Proposal block.now seal.now (plain_parent parent.now))) }
+    requires lawful { LawfulParts C.Content.kind S seats.n (Proposal block.now seal.now (plain_parent parent.now)) }
+    ensures value { result ≡ judge (K.SealCheck.accepts check.old) (asked C.Content.kind S seats.n (Q.Rota.leads rota.now) (Proposal block.now seal.now (plain_parent parent.now))) }
     ensures kept { K.SealCheck.accepts check.new ≡ K.SealCheck.accepts check.old }
 {
     let leader = rota.leader(block.rank.view);
-    ask::<S, K>(check, leader, 1, part(bytes, 1, 12 + L), seal)?;
+    ask::<S, K>(
+        check,
+        leader,
+        Statement::Proposal,
+        part(bytes, 1, 12 + L),
+        seal,
+    )?;
     match parent {
         None => Ok(()),
         Some(c) => ask_row::<S, K>(
-            n,
+            seats,
             check,
             c.mask,
-            2,
+            Statement::Vote,
             part(bytes, 13 + L + S, 12 + L),
             c.seals,
         ),
@@ -100,16 +114,15 @@ fn ask_proposal<'a, const L: usize, const S: usize, C: Content<L>, Q: Rota, K: S
 
 // Asks about every seal of a message, in their order, and stops at the first no.
 fn ask_all<'a, const L: usize, const S: usize, C: Content<L>, Q: Rota, K: SealCheck<S>>(
-    n: u8,
+    seats: SeatCount,
     bytes: &[u8],
     parts: &Parts<C::Record, &'a [u8]>,
     rota: &Q,
     check: &mut K,
 ) -> Result<(), Refusal>
-    requires limit { n ≤ 16 }
     requires back { message_bytes C.Content.kind (plain parts.now) ≡ bytes.now }
-    requires lawful { LawfulParts C.Content.kind S n (plain parts.now) }
-    ensures value { result ≡ judge (K.SealCheck.accepts check.old) (asked C.Content.kind S n (Q.Rota.leads rota.now) (plain parts.now)) }
+    requires lawful { LawfulParts C.Content.kind S seats.n (plain parts.now) }
+    ensures value { result ≡ judge (K.SealCheck.accepts check.old) (asked C.Content.kind S seats.n (Q.Rota.leads rota.now) (plain parts.now)) }
     ensures kept { K.SealCheck.accepts check.new ≡ K.SealCheck.accepts check.old }
 {
     match parts {
@@ -117,16 +130,36 @@ fn ask_all<'a, const L: usize, const S: usize, C: Content<L>, Q: Rota, K: SealCh
             block,
             seal,
             parent,
-        } => { ask_proposal::<L, S, C, Q, K>(n, bytes, block, *seal, parent, rota, check) }
+        } => { ask_proposal::<L, S, C, Q, K>(seats, bytes, block, *seal, parent, rota, check) }
         Parts::Vote { seat, seal, .. } => {
-            ask::<S, K>(check, *seat, 2, part(bytes, 2, 12 + L), *seal)
+            ask::<S, K>(check, *seat, Statement::Vote, part(bytes, 2, 12 + L), *seal)
         }
-        Parts::Blame { seat, seal, .. } => ask::<S, K>(check, *seat, 3, part(bytes, 2, 2), *seal),
+        Parts::Blame { seat, seal, .. } => ask::<S, K>(
+            check,
+            *seat,
+            Statement::Blame,
+            part(bytes, 2, 2),
+            *seal,
+        ),
         Parts::Certified(c) => {
-            ask_row::<S, K>(n, check, c.mask, 2, part(bytes, 1, 12 + L), c.seals)
+            ask_row::<S, K>(
+                seats,
+                check,
+                c.mask,
+                Statement::Vote,
+                part(bytes, 1, 12 + L),
+                c.seals,
+            )
         }
         Parts::Notice { mask, seals, .. } => {
-            ask_row::<S, K>(n, check, *mask, 3, part(bytes, 1, 2), *seals)
+            ask_row::<S, K>(
+                seats,
+                check,
+                *mask,
+                Statement::Blame,
+                part(bytes, 1, 2),
+                *seals,
+            )
         }
     }
 }
@@ -145,6 +178,6 @@ pub fn open<'a, const L: usize, const S: usize, C: Content<L>, Q: Rota, K: SealC
 {
     let message = read::<L, S, C>(seats, bytes)?;
     let parts = message.parts();
-    ask_all::<L, S, C, Q, K>(seats.get(), bytes, parts, rota, check)?;
+    ask_all::<L, S, C, Q, K>(seats, bytes, parts, rota, check)?;
     Ok(message)
 }

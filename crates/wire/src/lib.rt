@@ -2,7 +2,7 @@
 #![tactic(auto)]
 
 pub mod asking;
-pub(crate) mod fields;
+pub(crate) mod cursor;
 pub mod laws;
 pub mod maker;
 pub mod message;

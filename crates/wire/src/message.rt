@@ -1,7 +1,9 @@
 // Messages by their parts. T is how a seal, or a row of seals, is held: a part of the bytes that were read.
 ghost use Rattle.std.specs.Prelude.{◌≡◌};
+ghost use Rattle.wire.specs.Kinds.{kind_of};
 
 use blocks::block::Block;
+use content::refusal::Refusal;
 
 // A block with the seals of f + 1 votes for it: which seats sealed, a bit each, and their seals in a row, by rising seat.
 #[derive(Clone, Copy)]
@@ -37,6 +39,33 @@ pub enum Parts<R, T> {
         mask: u16,
         seals: T,
     },
+}
+
+// What a message is, by its first byte.
+#[derive(Clone, Copy)]
+pub(crate) enum MessageKind {
+    Proposal = 1,
+    Vote = 2,
+    Blame = 3,
+    Certified = 4,
+    Notice = 5,
+}
+
+impl TryFrom<u8> for MessageKind {
+    type Error = Refusal;
+
+    ghost try_from_gives = { λ byte result. result ≡ kind_of byte };
+
+    fn try_from(byte: u8) -> Result<MessageKind, Refusal> {
+        match byte {
+            1 => Ok(MessageKind::Proposal),
+            2 => Ok(MessageKind::Vote),
+            3 => Ok(MessageKind::Blame),
+            4 => Ok(MessageKind::Certified),
+            5 => Ok(MessageKind::Notice),
+            _ => Err(Refusal::UnknownKind),
+        }
+    }
 }
 
 // A message that keeps the layout for its number of seats: only reading and the checked maker give one.

@@ -5,153 +5,98 @@ ghost use Rattle.wire.specs.Meaning.{plain, plain_parent, plain_certificate};
 ghost use Rattle.wire.specs.Writing.{Put, body_size, parent_size, message_size, write_end, write_out, outbox_end, outbox_out};
 ghost use Rattle.wire.specs.declared.message.Parts.TheVariants.{Proposal, Vote, Blame, Certified, Notice};
 
-use crate::message::{Certificate, Message, Parts};
+use crate::message::{Certificate, Message, MessageKind, Parts};
 use blocks::block::Block;
 use content::kind::Content;
 use content::refusal::Refusal;
 
-// Puts bytes in place, and answers the offset behind them.
-fn put(bytes: &[u8], out: &mut [u8], at: usize) -> usize
-    requires { at + length bytes.now ≤ length out.old }
-    ensures { Put out.old at bytes.now out.new result }
-{
-    let end = at + bytes.len();
-    out[at..end].copy_from_slice(bytes);
-    end
+// Memory that is written field after field, from an offset on.
+#[derive(Drop)]
+struct Pen<'a> {
+    out: &'a mut [u8],
+    at: usize,
 }
 
-fn put_block<const L: usize, C: Content<L>>(
-    block: &Block<C::Record>,
-    out: &mut [u8],
-    at: usize,
-) -> usize
-    requires { at + 12 + L ≤ length out.old }
-    ensures bytes { Put out.old at (block_bytes C.Content.kind block.now) out.new result }
-    ensures size { result ≡ at + 12 + L }
-{
-    let at = put(&block.rank.view.to_le_bytes(), out, at);
-    let at = put(&block.rank.turn.to_le_bytes(), out, at);
-    let at = put(&block.height.to_le_bytes(), out, at);
-    let at = put(&block.parent.view.to_le_bytes(), out, at);
-    let at = put(&block.parent.turn.to_le_bytes(), out, at);
-    put(&C::bytes(&block.content), out, at)
-}
-
-fn put_body<const L: usize, C: Content<L>>(
-    c: &Certificate<C::Record, &[u8]>,
-    out: &mut [u8],
-    at: usize,
-) -> usize
-    requires { at + body_size L (plain_certificate c.now) ≤ length out.old }
-    ensures bytes { Put out.old at (body_bytes C.Content.kind (plain_certificate c.now)) out.new result }
-    ensures size { result ≡ at + body_size L (plain_certificate c.now) }
-{
-    let at = put_block::<L, C>(&c.block, out, at);
-    let at = put(&c.mask.to_le_bytes(), out, at);
-    put(c.seals, out, at)
-}
-
-fn put_proposal<const L: usize, C: Content<L>>(
-    block: &Block<C::Record>,
-    seal: &[u8],
-    parent: &Option<Certificate<C::Record, &[u8]>>,
-    out: &mut [u8],
-    at: usize,
-) -> usize
-    requires { at + 13 + L + length seal.now + parent_size L (plain_parent parent.now) ≤ length out.old }
-    ensures bytes { Put out.old at (message_bytes C.Content.kind (Proposal block.now seal.now (plain_parent parent.now))) out.new result }
-    ensures size { result ≡ at + 13 + L + length seal.now + parent_size L (plain_parent parent.now) }
-{
-    let at = put(&[1], out, at);
-    let at = put_block::<L, C>(block, out, at);
-    let at = put(seal, out, at);
-    match parent {
-        None => at,
-        Some(c) => put_body::<L, C>(c, out, at),
+impl Pen<'_> {
+    fn put(&mut self, bytes: &[u8])
+        requires { self.old.at + length bytes.now ≤ length self.old.out.now }
+        ensures same_memory { self.new.out.ghost_name ≡ self.old.out.ghost_name }
+        ensures length { length self.new.out.now ≡ length self.old.out.now }
+        ensures bytes { Put self.old.out.now self.old.at bytes.now self.new.out.now self.new.at }
+    {
+        let end = self.at + bytes.len();
+        self.out[self.at..end].copy_from_slice(bytes);
+        self.at = end;
     }
-}
 
-fn put_vote<const L: usize, C: Content<L>>(
-    seat: u8,
-    block: &Block<C::Record>,
-    seal: &[u8],
-    out: &mut [u8],
-    at: usize,
-) -> usize
-    requires { at + 14 + L + length seal.now ≤ length out.old }
-    ensures bytes { Put out.old at (message_bytes C.Content.kind (Vote seat block.now seal.now)) out.new result }
-    ensures size { result ≡ at + 14 + L + length seal.now }
-{
-    let at = put(&[2, seat], out, at);
-    let at = put_block::<L, C>(block, out, at);
-    put(seal, out, at)
-}
+    fn block<const L: usize, C: Content<L>>(&mut self, block: &Block<C::Record>)
+        requires { self.old.at + 12 + L ≤ length self.old.out.now }
+        ensures same_memory { self.new.out.ghost_name ≡ self.old.out.ghost_name }
+        ensures length { length self.new.out.now ≡ length self.old.out.now }
+        ensures bytes { Put self.old.out.now self.old.at (block_bytes C.Content.kind block.now) self.new.out.now self.new.at }
+        ensures size { self.new.at ≡ self.old.at + 12 + L }
+    {
+        self.put(&block.rank.view.to_le_bytes());
+        self.put(&block.rank.turn.to_le_bytes());
+        self.put(&block.height.to_le_bytes());
+        self.put(&block.parent.view.to_le_bytes());
+        self.put(&block.parent.turn.to_le_bytes());
+        self.put(&C::bytes(&block.content));
+    }
 
-fn put_blame<const L: usize, C: Content<L>>(
-    seat: u8,
-    view: u16,
-    seal: &[u8],
-    out: &mut [u8],
-    at: usize,
-) -> usize
-    requires { at + 4 + length seal.now ≤ length out.old }
-    ensures bytes { Put out.old at (message_bytes C.Content.kind (Blame seat view seal.now)) out.new result }
-    ensures size { result ≡ at + 4 + length seal.now }
-{
-    let at = put(&[3, seat], out, at);
-    let at = put(&view.to_le_bytes(), out, at);
-    put(seal, out, at)
-}
+    fn body<const L: usize, C: Content<L>>(&mut self, c: &Certificate<C::Record, &[u8]>)
+        requires { self.old.at + body_size L (plain_certificate c.now) ≤ length self.old.out.now }
+        ensures same_memory { self.new.out.ghost_name ≡ self.old.out.ghost_name }
+        ensures length { length self.new.out.now ≡ length self.old.out.now }
+        ensures bytes { Put self.old.out.now self.old.at (body_bytes C.Content.kind (plain_certificate c.now)) self.new.out.now self.new.at }
+        ensures size { self.new.at ≡ self.old.at + body_size L (plain_certificate c.now) }
+    {
+        self.block::<L, C>(&c.block);
+        self.put(&c.mask.to_le_bytes());
+        self.put(c.seals);
+    }
 
-fn put_certified<const L: usize, C: Content<L>>(
-    c: &Certificate<C::Record, &[u8]>,
-    out: &mut [u8],
-    at: usize,
-) -> usize
-    requires { at + 1 + body_size L (plain_certificate c.now) ≤ length out.old }
-    ensures bytes { Put out.old at (message_bytes C.Content.kind (Certified (plain_certificate c.now))) out.new result }
-    ensures size { result ≡ at + 1 + body_size L (plain_certificate c.now) }
-{
-    let at = put(&[4], out, at);
-    put_body::<L, C>(c, out, at)
-}
-
-fn put_notice<const L: usize, C: Content<L>>(
-    view: u16,
-    mask: u16,
-    seals: &[u8],
-    out: &mut [u8],
-    at: usize,
-) -> usize
-    requires { at + 5 + length seals.now ≤ length out.old }
-    ensures bytes { Put out.old at (message_bytes C.Content.kind (Notice view mask seals.now)) out.new result }
-    ensures size { result ≡ at + 5 + length seals.now }
-{
-    let at = put(&[5], out, at);
-    let at = put(&view.to_le_bytes(), out, at);
-    let at = put(&mask.to_le_bytes(), out, at);
-    put(seals, out, at)
-}
-
-fn put_parts<const L: usize, C: Content<L>>(
-    parts: &Parts<C::Record, &[u8]>,
-    out: &mut [u8],
-    at: usize,
-) -> usize
-    requires { at + message_size L (plain parts.now) ≤ length out.old }
-    ensures bytes { Put out.old at (message_bytes C.Content.kind (plain parts.now)) out.new result }
-    ensures size { result ≡ at + message_size L (plain parts.now) }
-{
-    match parts {
-        Parts::Proposal {
-            block,
-            seal,
-            parent,
-        } => put_proposal::<L, C>(block, seal, parent, out, at),
-        Parts::Vote { seat, block, seal } => put_vote::<L, C>(*seat, block, seal, out, at),
-        Parts::Blame { seat, view, seal } => put_blame::<L, C>(*seat, *view, seal, out, at),
-        Parts::Certified(c) => put_certified::<L, C>(c, out, at),
-        Parts::Notice { view, mask, seals } => put_notice::<L, C>(*view, *mask, seals, out, at),
+    fn parts<const L: usize, C: Content<L>>(&mut self, parts: &Parts<C::Record, &[u8]>)
+        requires { self.old.at + message_size L (plain parts.now) ≤ length self.old.out.now }
+        ensures same_memory { self.new.out.ghost_name ≡ self.old.out.ghost_name }
+        ensures length { length self.new.out.now ≡ length self.old.out.now }
+        ensures bytes { Put self.old.out.now self.old.at (message_bytes C.Content.kind (plain parts.now)) self.new.out.now self.new.at }
+        ensures size { self.new.at ≡ self.old.at + message_size L (plain parts.now) }
+    {
+        match parts {
+            Parts::Proposal {
+                block,
+                seal,
+                parent,
+            } => {
+                self.put(&[MessageKind::Proposal as u8]);
+                self.block::<L, C>(block);
+                self.put(seal);
+                if let Some(c) = parent {
+                    self.body::<L, C>(c);
+                }
+            }
+            Parts::Vote { seat, block, seal } => {
+                self.put(&[MessageKind::Vote as u8, *seat]);
+                self.block::<L, C>(block);
+                self.put(seal);
+            }
+            Parts::Blame { seat, view, seal } => {
+                self.put(&[MessageKind::Blame as u8, *seat]);
+                self.put(&view.to_le_bytes());
+                self.put(seal);
+            }
+            Parts::Certified(c) => {
+                self.put(&[MessageKind::Certified as u8]);
+                self.body::<L, C>(c);
+            }
+            Parts::Notice { view, mask, seals } => {
+                self.put(&[MessageKind::Notice as u8]);
+                self.put(&view.to_le_bytes());
+                self.put(&mask.to_le_bytes());
+                self.put(seals);
+            }
+        }
     }
 }
 
@@ -200,7 +145,9 @@ pub fn write_parts<const L: usize, C: Content<L>>(
     if at as u128 + size::<L, C::Record>(parts) > out.len() as u128 {
         return Err(Refusal::SmallOutbox);
     }
-    Ok(put_parts::<L, C>(parts, out, at))
+    let mut pen = Pen { out, at };
+    pen.parts::<L, C>(parts);
+    Ok(pen.at)
 }
 
 // How much memory there has to be to write a message into.

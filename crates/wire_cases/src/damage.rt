@@ -5,13 +5,9 @@ use std::process::Abort;
 
 // Where the fields of a message begin: cut anywhere in a field, it is that field which is short.
 fn cut_everywhere(rt: &impl Abort, message: &[u8], fields: &[usize]) {
-    let mut at = 0;
     for len in 0..message.len() {
-        for start in fields {
-            if *start == len {
-                at = len;
-            }
-        }
+        let begun = fields.iter().copied().filter(|start| *start <= len);
+        let at = begun.last().unwrap_or(0);
         assert_eq!(rt; reading(&message[0..len]), Err(Refusal::Short { at }));
     }
     assert_eq!(rt; reading(message), Ok(()));
@@ -37,12 +33,16 @@ fn a_message_ends_with_its_last_field(rt: HostRuntime) {
     for kind in [0, 6, 9, 255] {
         assert_eq!(rt; reading(&[kind]), Err(Refusal::UnknownKind));
     }
-    let longer = replaced(&rt, &PROPOSAL, 0, 1);
-    assert_eq!(rt; reading(&longer[0..86]), Err(Refusal::Trailing { at: 85 }));
-    let longer = replaced(&rt, &FIRST_PROPOSAL, 0, 1);
-    assert_eq!(rt; reading(&longer[0..96]), Err(Refusal::Trailing { at: 38 }));
-    let longer = replaced(&rt, &BLAME, 0, 3);
-    assert_eq!(rt; reading(&longer[0..13]), Err(Refusal::Trailing { at: 12 }));
+    let cases = [
+        (&PROPOSAL[..], 1, 86, 85),
+        (&FIRST_PROPOSAL[..], 1, 96, 38),
+        (&BLAME[..], 3, 13, 12),
+    ];
+    for (message, kind, len, at) in cases {
+        let longer = replaced(&rt, message, 0, kind);
+        assert!(rt; len <= 96);
+        assert_eq!(rt; reading(&longer[0..len]), Err(Refusal::Trailing { at }));
+    }
 }
 
 // Each line replaces one byte: its offset, the byte, and what reading then says.

@@ -35,10 +35,7 @@ pub const NOTICE: [u8; 21] = [
 
 // What reading for three seats says.
 pub fn reading(bytes: &[u8]) -> Result<(), Refusal> {
-    match read::<17, 8, Edit>(SeatCount::new(3)?, bytes) {
-        Ok(_) => Ok(()),
-        Err(e) => Err(e),
-    }
+    read::<17, 8, Edit>(SeatCount::new(3)?, bytes).map(|_| ())
 }
 
 // A message with one byte replaced.

@@ -17,15 +17,9 @@ const KEYS: [u8; 48] = [
 // What opening says, under the keys of three seats that lead in turn.
 fn opening(bytes: &[u8]) -> Result<(), Refusal> {
     let mut house = HouseSeals::new(&KEYS, 3)?;
-    match open::<17, 8, Edit, RoundRobin, HouseSeals>(
-        SeatCount::new(3)?,
-        bytes,
-        &RoundRobin::new(3)?,
-        &mut house,
-    ) {
-        Ok(_) => Ok(()),
-        Err(e) => Err(e),
-    }
+    let seats = SeatCount::new(3)?;
+    let rota = RoundRobin::new(3)?;
+    open::<17, 8, Edit, RoundRobin, HouseSeals>(seats, bytes, &rota, &mut house).map(|_| ())
 }
 
 // The seal of a seat on a tag and a part of the message, put in place.
@@ -65,18 +59,12 @@ fn a_proposal_is_asked_about_its_own_seal_and_then_its_parents(
     assert_eq!(rt; opening(&m[0..85]), Err(Refusal::BadSeal { seat: 2 }));
     seal(&rt, &mut m, 2, 2, (38, 67), 77)?;
     assert_eq!(rt; opening(&m[0..85]), Ok(()));
-    assert_eq!(rt;
-        opening(&spoilt(&rt, &m, 37)[0..85]),
-        Err(Refusal::BadSeal { seat: 1 })
-    );
-    assert_eq!(rt;
-        opening(&spoilt(&rt, &m, 69)[0..85]),
-        Err(Refusal::BadSeal { seat: 0 })
-    );
-    assert_eq!(rt;
-        opening(&spoilt(&rt, &m, 84)[0..85]),
-        Err(Refusal::BadSeal { seat: 2 })
-    );
+    for (at, seat) in [(37, 1), (69, 0), (84, 2)] {
+        assert_eq!(rt;
+            opening(&spoilt(&rt, &m, at)[0..85]),
+            Err(Refusal::BadSeal { seat })
+        );
+    }
     assert_eq!(rt; opening(&PROPOSAL), Err(Refusal::BadSeal { seat: 1 }));
     assert_eq!(rt; opening(&m[0..84]), Err(Refusal::Short { at: 77 }));
     Ok(())

@@ -24,12 +24,18 @@ fn written_again(rt: &impl Abort, bytes: &[u8]) -> Result<(), Fail> {
 
 #[test]
 fn every_message_is_written_as_it_was_read(rt: HostRuntime) -> Result<(), Fail> {
-    written_again(&rt, &PROPOSAL)?;
-    written_again(&rt, &FIRST_PROPOSAL)?;
-    written_again(&rt, &VOTE)?;
-    written_again(&rt, &BLAME)?;
-    written_again(&rt, &CERTIFIED)?;
-    written_again(&rt, &NOTICE)
+    let messages = [
+        &PROPOSAL[..],
+        &FIRST_PROPOSAL[..],
+        &VOTE[..],
+        &BLAME[..],
+        &CERTIFIED[..],
+        &NOTICE[..],
+    ];
+    for message in messages {
+        written_again(&rt, message)?;
+    }
+    Ok(())
 }
 
 #[test]
@@ -51,10 +57,7 @@ fn blaming(seat: u8, seal: &[u8]) -> Result<(), Refusal> {
         view: 263,
         seal,
     };
-    match make::<17, 8, Edit>(SeatCount::new(3)?, parts) {
-        Ok(_) => Ok(()),
-        Err(e) => Err(e),
-    }
+    make::<17, 8, Edit>(SeatCount::new(3)?, parts).map(|_| ())
 }
 
 #[test]
@@ -76,7 +79,7 @@ fn seals_lie_in_a_row_by_rising_seat(rt: HostRuntime) {
     votes.keep(15, &[9, 9]);
     assert_eq!(rt; votes.count(), 3);
     assert_eq!(rt; votes.mask(), 0b100_0000_0000_1001);
-    assert!(rt; votes.has(14) & !votes.has(2) & !votes.has(15));
+    assert!(rt; votes.has(14) && !votes.has(2) && !votes.has(15));
     let row = votes.row();
     assert!(rt; row[0..8] == [1, 2, 3, 4, 5, 6, 0, 0]);
 }

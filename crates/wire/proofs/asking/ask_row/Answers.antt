@@ -6,7 +6,7 @@ use Rattle.wire.proofs.asking.ask_row.Goals.{then-has+in_ok-ask, else-has}
 
 pub split_at-requires : goal.split_at-requires
 split_at-requires g c =
-    going_fits _ _ _ c.args.n c.loop-seat.seat _ _ _ c.loop-seat.invariant.1 (omega arith) (sym c.has.ensures ∙ c.if-has.true)
+    going_fits _ _ _ c.args.seats.n c.loop-seat.seat _ _ _ c.loop-seat.invariant.1 (omega arith) (sym c.has.ensures ∙ c.if-has.true)
 
 pub returns-in_err-ask : goal.returns-in_err-ask
 returns-in_err-ask g c =
@@ -14,7 +14,7 @@ returns-in_err-ask g c =
     record {
       value =
           rw (p.1, p.2)
-          (going_no _ _ _ c.args.n c.loop-seat.seat _ _ _ _ c.loop-seat.invariant.0 c.loop-seat.invariant.1 (omega arith)
+          (going_no _ _ _ c.args.seats.n c.loop-seat.seat _ _ _ _ c.loop-seat.invariant.0 c.loop-seat.invariant.1 (omega arith)
           (sym c.has.ensures ∙ c.if-has.true) _ c.split_at.ensures.front _ c.in_err-ask.ensures.value);
       kept = c.ask.ensures.kept ∙ c.loop-seat.invariant.0;
     }
@@ -24,20 +24,20 @@ loop-seat-preserved g c =
     elim c.if-has.branch [
       | then-has+in_ok-ask w ↦ (
         ap g.K.SealCheck.accepts w.check-is ∙ w.ask.ensures.kept ∙ c.loop-seat.invariant.0,
-        going_in _ _ _ c.args.n c.loop-seat.seat _ _ _ _ c.loop-seat.invariant.0 c.loop-seat.invariant.1 (omega arith)
+        going_in _ _ _ c.args.seats.n c.loop-seat.seat _ _ _ _ c.loop-seat.invariant.0 c.loop-seat.invariant.1 (omega arith)
             (sym c.has.ensures ∙ w.if-has.true) _ _ w.split_at.ensures.front (ap (λ x. x.now) w.rest-is ∙ w.split_at.ensures.back)
             w.in_ok-ask.ensures.value,
       )
       | else-has w ↦ (
         ap g.K.SealCheck.accepts w.check-is ∙ c.loop-seat.invariant.0,
         rw w.rest-is
-            (going_out _ _ _ c.args.n c.loop-seat.seat _ _ _ c.loop-seat.invariant.1 (omega arith) (sym c.has.ensures ∙ w.if-has.false)),
+            (going_out _ _ _ c.args.seats.n c.loop-seat.seat _ _ _ c.loop-seat.invariant.1 (omega arith) (sym c.has.ensures ∙ w.if-has.false)),
       )
     ]
 
 pub returns : goal.returns
 returns g c =
     record {
-      value = going_end _ _ _ c.args.n c.loop-seat.seat _ _ _ c.loop-seat.invariant.1 (omega arith);
+      value = going_end _ _ _ c.args.seats.n c.loop-seat.seat _ _ _ c.loop-seat.invariant.1 (omega arith);
       kept = c.loop-seat.invariant.0;
     }

@@ -1,4 +1,5 @@
 use Rattle.std.proofs.Common.{◌≡◌, ◌∷◌}
+use Rattle.wire.specs.Statements.{tag_of}
 use Rattle.wire.proofs.RowsAsked.{Going}
 use Rattle.wire.proofs.asking.ask_row.Given as goal
 
@@ -6,4 +7,4 @@ use Rattle.wire.proofs.asking.ask_row.Given as goal
 abbrev pub invariant-loop-seat : goal.invariant-loop-seat
 invariant-loop-seat g l =
     (g.K.SealCheck.accepts l.check ≡ g.K.SealCheck.accepts l.initial.check) ×
-    Going (g.K.SealCheck.accepts l.initial.check) g.row.S l.mask l.n l.seat (l.tag ∷ l.body) l.row l.rest
+    Going (g.K.SealCheck.accepts l.initial.check) g.row.S l.mask l.fn.seats.n l.seat (tag_of l.statement ∷ l.body) l.row l.rest

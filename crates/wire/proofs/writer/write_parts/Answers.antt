@@ -1,13 +1,17 @@
+use Rattle.std.proofs.Common.{◌≡◌, rules}
 use Rattle.wire.specs.Meaning.{plain}
+use Rattle.wire.specs.Writing.{write_out}
 use Rattle.wire.proofs.Places.{write_end_lem, write_out_lem}
 use Rattle.wire.proofs.writer.write_parts.Goals as goal
 
-pub returns : goal.returns
-returns g c =
-    let k = g.C.Content.kind in
-    let m = plain c.args.parts.now in
-    let p = c.put_parts.ensures in
-    record {
-      answer = write_end_lem k c.args.out.now c.args.at m c.put_parts.result p.size p.bytes.fits;
-      bytes = write_out_lem k c.args.out.now c.args.at m p.size p.bytes;
-    }
+pub returns-clause-answer : goal.returns-clause-answer
+returns-clause-answer g c =
+    let p = c.parts.ensures in
+    write_end_lem g.C.Content.kind c.args.out.now c.args.at (plain c.args.parts.now) c.parts.new.self.at p.size p.bytes.fits
+
+pub returns-clause-bytes : goal.returns-clause-bytes
+returns-clause-bytes g c =
+    let p = c.parts.ensures in
+    let h : c.parts.new.self.out.now ≡ write_out g.C.Content.kind c.args.out.now c.args.at (plain c.args.parts.now) =
+    write_out_lem g.C.Content.kind c.args.out.now c.args.at (plain c.args.parts.now) p.size p.bytes in
+    search (rules, h)
