@@ -1,0 +1,94 @@
+// A house of three seats that lead in turn and log edits: its desks, its replays, and its signing box.
+use blocks::block::{Block, Rank};
+use content::edit::Edit;
+use content::refusal::Refusal;
+use rota::robin::RoundRobin;
+use seals::house::HouseSeals;
+use seat::seat::Seat;
+use state::answer::Word;
+use std::alloc::Global;
+use std::process::Abort;
+use std::test::Fail;
+use world::call::{Call, Reply, What};
+use world::desk::Desk;
+use world::making::blank_cells;
+use world::world::replay;
+
+const KEYS: [u8; 48] = *b"Ana's first key.Ben's other key.Cleo, third key.";
+
+const ROOT: Rank = Rank { view: 0, turn: 0 };
+
+// A desk with four cells. Its seat counts on messages within one tick, and waits 100 for progress.
+fn desk(heap: Global, own: u8) -> Result<Desk<17, 8, Edit>, Fail> {
+    let blank = Block {
+        rank: ROOT,
+        height: 0,
+        parent: ROOT,
+        content: Edit::Undo.record()?,
+    };
+    let seat = Seat::<17, 8, Edit>::new::<HouseSeals>(3, own, 1, 100)?;
+    Ok(Desk::new(seat, blank_cells(heap, 4, blank)?))
+}
+
+// Three new desks.
+pub fn desks(heap: Global) -> Result<Vec<Desk<17, 8, Edit>>, Fail> {
+    let mut desks = Vec::new(heap);
+    for own in 0..3 {
+        desks.push(desk(heap, own)?)?;
+    }
+    Ok(desks)
+}
+
+// A call at a seat, with an outbox that has room for every message.
+pub fn at<'c>(seat: u8, what: What<'c>) -> Call<'c> {
+    Call {
+        seat,
+        what,
+        room: 1024,
+    }
+}
+
+// Replays calls: all of them are made, and they answer these words and refusals.
+pub fn replayed(
+    rt: &(impl Abort + AllocGlobal),
+    world: &mut [Desk<17, 8, Edit>],
+    calls: &[Call<'_>],
+    words: &[Result<Word, Refusal>],
+) -> Result<Vec<Reply>, Fail> {
+    let mut house = HouseSeals::new(&KEYS, 3)?;
+    let rota = RoundRobin::new(3)?;
+    let replayed = replay::<17, 8, Edit, RoundRobin, HouseSeals>(
+        rt.alloc(),
+        world,
+        &rota,
+        &mut house,
+        calls,
+    );
+    assert_eq!(rt; replayed.ended, Ok(()));
+    assert_eq!(rt; replayed.replies.len(), words.len());
+    for (reply, word) in replayed.replies.iter().zip(words) {
+        assert_eq!(rt; reply.answer.map(|answer| answer.word), *word);
+        assert_eq!(rt; reply.outbox.len(), 1024);
+    }
+    Ok(replayed.replies)
+}
+
+// The message of N bytes in front of an outbox, with a seat's seal in its last eight bytes: on the tag, and the bytes from
+// an offset up to the seal.
+pub fn sealed<const N: usize>(
+    rt: &impl Abort,
+    outbox: &[u8],
+    seat: u8,
+    tag: u8,
+    from: usize,
+) -> Result<[u8; N], Fail> {
+    assert!(rt; from + 8 <= N && N <= outbox.len());
+    let mut message = [0; N];
+    message.copy_from_slice(&outbox[0..N]);
+    let house = HouseSeals::new(&KEYS, 3)?;
+    let seal = house
+        .sign(seat, tag, &message[from..N - 8])
+        .ok_or("no key")?;
+    message[N - 8..N].copy_from_slice(&seal);
+    Ok(message)
+}
