@@ -73,22 +73,18 @@ pub fn replayed(
     Ok(replayed.replies)
 }
 
-// The message of N bytes in front of an outbox, with a seat's seal in its last eight bytes: on the tag, and the bytes from
-// an offset up to the seal.
-pub fn sealed<const N: usize>(
+// Puts a seat's seal into the last eight bytes of a message: on the tag, and the bytes from an offset up to the seal.
+pub fn seal(
     rt: &impl Abort,
-    outbox: &[u8],
+    message: &mut [u8],
     seat: u8,
     tag: u8,
     from: usize,
-) -> Result<[u8; N], Fail> {
-    assert!(rt; from + 8 <= N && N <= outbox.len());
-    let mut message = [0; N];
-    message.copy_from_slice(&outbox[0..N]);
+) -> Result<(), Fail> {
+    assert!(rt; message.len() >= 8 && from <= message.len() - 8);
+    let at = message.len() - 8;
     let house = HouseSeals::new(&KEYS, 3)?;
-    let seal = house
-        .sign(seat, tag, &message[from..N - 8])
-        .ok_or("no key")?;
-    message[N - 8..N].copy_from_slice(&seal);
-    Ok(message)
+    let seal = house.sign(seat, tag, &message[from..at]).ok_or("no key")?;
+    message[at..].copy_from_slice(&seal);
+    Ok(())
 }

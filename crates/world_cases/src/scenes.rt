@@ -1,5 +1,5 @@
 // Calls at three seats: an entry from its offer to the log, two proposals of one rank, and calls that are refused.
-use crate::house::{at, desks, replayed, sealed};
+use crate::house::{at, desks, replayed, seal};
 use content::edit::Edit;
 use content::refusal::Refusal;
 use state::answer::{Item, Word};
@@ -23,7 +23,9 @@ fn proposed(
         offered.answer?.message,
         Some(Item::Outbox { from: 0, to: 38 })
     );
-    sealed(rt, &offered.outbox, 0, 1, 1)
+    let mut proposal = *offered.outbox.first_chunk().ok_or("no message")?;
+    seal(rt, &mut proposal, 0, 1, 1)?;
+    Ok(proposal)
 }
 
 // A seat is handed the proposal, accepts it, and votes after two ticks. Its vote, sealed.
@@ -43,7 +45,9 @@ fn voted(
         voted.answer?.message,
         Some(Item::Outbox { from: 0, to: 39 })
     );
-    sealed(rt, &voted.outbox, seat, 2, 2)
+    let mut vote = *voted.outbox.first_chunk().ok_or("no message")?;
+    seal(rt, &mut vote, seat, 2, 2)?;
+    Ok(vote)
 }
 
 // A seat is handed two votes: the second completes a quorum, and the seat commits height 1.
@@ -94,7 +98,8 @@ fn two_proposals_of_one_rank_clash(rt: HostRuntime) -> Result<(), Fail> {
     let first = proposed(&rt, &mut world)?;
     let mut changed = first;
     changed[13] = 2;
-    let second: [u8; 38] = sealed(&rt, &changed, 0, 1, 1)?;
+    let mut second = changed;
+    seal(&rt, &mut second, 0, 1, 1)?;
     let calls = [
         at(1, What::HandIn(&first)),
         at(1, What::Sent),
