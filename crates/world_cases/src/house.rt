@@ -74,17 +74,25 @@ pub fn replayed(
 }
 
 // Puts a seat's seal into the last eight bytes of a message: on the tag, and the bytes from an offset up to the seal.
-pub fn seal(
-    rt: &impl Abort,
-    message: &mut [u8],
-    seat: u8,
-    tag: u8,
-    from: usize,
-) -> Result<(), Fail> {
+fn seal(rt: &impl Abort, message: &mut [u8], seat: u8, tag: u8, from: usize) -> Result<(), Fail> {
     assert!(rt; message.len() >= 8 && from <= message.len() - 8);
     let at = message.len() - 8;
     let house = HouseSeals::new(&KEYS, 3)?;
     let seal = house.sign(seat, tag, &message[from..at]).ok_or("no key")?;
     message[at..].copy_from_slice(&seal);
     Ok(())
+}
+
+// The proposal at height 1 in front of an outbox, with the seal of seat 0.
+pub fn sealed_proposal(rt: &impl Abort, outbox: &[u8]) -> Result<[u8; 38], Fail> {
+    let mut proposal = *outbox.first_chunk().ok_or("no proposal")?;
+    seal(rt, &mut proposal, 0, 1, 1)?;
+    Ok(proposal)
+}
+
+// The vote in front of an outbox, with the seal of its seat.
+pub fn sealed_vote(rt: &impl Abort, outbox: &[u8], seat: u8) -> Result<[u8; 39], Fail> {
+    let mut vote = *outbox.first_chunk().ok_or("no vote")?;
+    seal(rt, &mut vote, seat, 2, 2)?;
+    Ok(vote)
 }

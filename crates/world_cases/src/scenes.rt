@@ -1,5 +1,5 @@
 // Calls at three seats: an entry from its offer to the log, two proposals of one rank, and calls that are refused.
-use crate::house::{at, desks, replayed, seal};
+use crate::house::{at, desks, replayed, sealed_proposal, sealed_vote};
 use content::edit::Edit;
 use content::refusal::Refusal;
 use state::answer::{Item, Word};
@@ -23,9 +23,7 @@ fn proposed(
         offered.answer?.message,
         Some(Item::Outbox { from: 0, to: 38 })
     );
-    let mut proposal = *offered.outbox.first_chunk().ok_or("no message")?;
-    seal(rt, &mut proposal, 0, 1, 1)?;
-    Ok(proposal)
+    sealed_proposal(rt, &offered.outbox)
 }
 
 // A seat is handed the proposal, accepts it, and votes after two ticks. Its vote, sealed.
@@ -45,9 +43,7 @@ fn voted(
         voted.answer?.message,
         Some(Item::Outbox { from: 0, to: 39 })
     );
-    let mut vote = *voted.outbox.first_chunk().ok_or("no message")?;
-    seal(rt, &mut vote, seat, 2, 2)?;
-    Ok(vote)
+    sealed_vote(rt, &voted.outbox, seat)
 }
 
 // A seat is handed two votes: the second completes a quorum, and the seat commits height 1.
@@ -98,8 +94,7 @@ fn two_proposals_of_one_rank_clash(rt: HostRuntime) -> Result<(), Fail> {
     let first = proposed(&rt, &mut world)?;
     let mut changed = first;
     changed[13] = 2;
-    let mut second = changed;
-    seal(&rt, &mut second, 0, 1, 1)?;
+    let second = sealed_proposal(&rt, &changed)?;
     let calls = [
         at(1, What::HandIn(&first)),
         at(1, What::Sent),

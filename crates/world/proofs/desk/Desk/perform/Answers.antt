@@ -6,18 +6,18 @@ use Rattle.world.proofs.desk.Desk.perform.Goals as goal
 
 pub returns-in-HandIn : goal.returns-in-HandIn
 returns-in-HandIn g c = record {
-  does = λ w i h led checked at.
+  does = λ w i h rules at.
       let k = g.C.Content.kind in
       let out = c.args.outbox.now in
       subst (λ x. Performed k w i (call_of x (length out)) h out c.hand_in.result c.hand_in.new.self c.hand_in.new.outbox) (sym c.in-HandIn.is)
-      (hand_performed k w i h c.args.self.now c.hand_in.new.self at out (g.Q.Rota.leads c.args.rota.now) (g.K.SealCheck.accepts c.args.check.now) led checked
+      (hand_performed k w i h c.args.self.now c.hand_in.new.self at out (g.Q.Rota.leads c.args.rota.now) (g.K.SealCheck.accepts c.args.check.now) rules.led rules.checked
       c.in-HandIn.inbox.now (length out) c.hand_in.new.outbox c.hand_in.result (c.hand_in.ensures.work at.tidy));
   check = c.hand_in.ensures.check;
 }
 
 pub returns-in-Tick : goal.returns-in-Tick
 returns-in-Tick g c = record {
-  does = λ w i h led checked at.
+  does = λ w i h rules at.
       let k = g.C.Content.kind in
       let out = c.args.outbox.now in
       subst (λ x. Performed k w i (call_of x (length out)) h out c.tick.result c.tick.new.self c.tick.new.outbox) (sym c.in-Tick.is)
@@ -27,18 +27,18 @@ returns-in-Tick g c = record {
 
 pub returns-in-Offer : goal.returns-in-Offer
 returns-in-Offer g c = record {
-  does = λ w i h led checked at.
+  does = λ w i h rules at.
       let k = g.C.Content.kind in
       let out = c.args.outbox.now in
       subst (λ x. Performed k w i (call_of x (length out)) h out c.offer.result c.offer.new.self c.offer.new.outbox) (sym c.in-Offer.is)
-      (offer_performed k w i h c.args.self.now c.offer.new.self at out (g.Q.Rota.leads c.args.rota.now) (g.K.SealCheck.accepts c.args.check.now) led checked
+      (offer_performed k w i h c.args.self.now c.offer.new.self at out (g.Q.Rota.leads c.args.rota.now) (g.K.SealCheck.accepts c.args.check.now) rules.led rules.checked
       c.in-Offer.content.now (length out) c.offer.new.outbox c.offer.result (c.offer.ensures at.tidy));
   check = refl;
 }
 
 pub returns-in-Sent : goal.returns-in-Sent
 returns-in-Sent g c = record {
-  does = λ w i h led checked at.
+  does = λ w i h rules at.
       let k = g.C.Content.kind in
       let out = c.args.outbox.now in
       subst (λ x. Performed k w i (call_of x (length out)) h out (Ok c.of.result) c.sent.new.self out) (sym c.in-Sent.is)
