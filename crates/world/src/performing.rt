@@ -37,7 +37,8 @@ impl<const L: usize, const S: usize, C: Content<L>> Desk<L, S, C> {
     }
 }
 
-// Makes a call at the desk of a number: refused where there is none.
+// Makes a call at the desk of a number: refused where there is none. The desks, the rota and the check are no struct: where a
+// struct lends the desks, a proof does not know that a desk fits into memory, as a call at it asks.
 pub fn call_at<const L: usize, const S: usize, C: Content<L>, Q: Rota, K: SealCheck<S>>(
     desks: &mut [Desk<L, S, C>],
     rota: &Q,
@@ -50,9 +51,9 @@ pub fn call_at<const L: usize, const S: usize, C: Content<L>, Q: Rota, K: SealCh
     ensures check { K.SealCheck.accepts check.new ≡ K.SealCheck.accepts check.old }
 {
     let at = seat as usize;
+    // indexed: after the `get_mut` of a slice nothing is known of its other elements
     if at >= desks.len() {
         return Err(Refusal::OutOfLimits);
     }
-    let desk = &mut desks[at];
-    desk.perform(rota, check, what, outbox)
+    desks[at].perform(rota, check, what, outbox)
 }

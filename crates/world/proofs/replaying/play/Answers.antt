@@ -1,4 +1,4 @@
-use Rattle.std.proofs.Common.{length, is_err, vec_items, sym, refl, ap, ◌∙◌, subst, arith}
+use Rattle.std.proofs.Common.{length, is_err, vec_items, sym, refl, ap, ◌∙◌, subst}
 use Rattle.world.specs.Replaying.{Played}
 use Rattle.world.specs.Worlds.{Rules}
 use Rattle.world.proofs.Replays.{any_default, counted-more, counted_same, played-more, played-none, played-same}
