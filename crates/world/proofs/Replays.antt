@@ -1,10 +1,11 @@
 -- One call more, and a list of calls.
-use Rattle.std.proofs.Common.{◌≡◌, ℕ, zero, suc, ◌+◌, ◌-◌, ◌<◌, Bool, true, false, not, List, [], ◌∷◌, ◌++◌, length, get_or, take, replicate, is_err, is_ok as answered_ok, OnOk, Ok, Err, vec_items, Result, sym, refl, ap, ◌∙◌, subst, add-one, arith, take-suc}
+use Rattle.std.proofs.Common.{◌≡◌, ℕ, zero, suc, ◌+◌, ◌<◌, true, false, List, [], ◌∷◌, ◌++◌, length, get_or, take, replicate, is_err, is_ok as answered_ok, OnOk, Ok, Err, vec_items, Result, sym, refl, ap, ◌∙◌, subst, add-one, arith, take-suc}
+use Rattle.std.specs.Result.{IfErr, IsErr}
 use lib.ListN.{length-replicate}
-use native.Mathlib.Nat.{sub-zero}
 use Rattle.content.specs.Kinds.{Kind}
 use Rattle.content.specs.declared.kind.Content.{Ghosts}
 use Rattle.content.specs.declared.refusal.Refusal.{Refusal}
+use Rattle.content.specs.declared.refusal.Refusal.TheVariants.{NoMemory}
 use Rattle.agreement.specs.History.{History}
 use Rattle.agreement.specs.Setting.{Setting}
 use Rattle.world.specs.Performing.{CalledAt}
@@ -34,23 +35,16 @@ module _ {L S : ℕ} {C R : Type 0} {bound : Ghosts C L R} (k : Kind L R) (w : S
             (ap (λ a. record { answer = a; outbox = vec_items reply.outbox }) here.answers ∙ ap (λ o. record { answer = answer_to S k w (length ds) (event_of c) h; outbox = o }) (kept ∙ here.outbox))),
       )
 
-pub is_ok : (b t : Bool) → t ≡ not b → b ≡ false → t ≡ true
-is_ok b t e f = e ∙ ap not f
+  -- memory was wanting, and nothing was done
+  pub refused : (c : Call) (h : History) (ds : List (Desk L S C R bound)) (rs : List Reply) (r : Result (Unit {0}) Refusal) (ds' : List (Desk L S C R bound)) (rs' : List Reply) →
+      IsErr r → IfErr r (λ e. e ≡ NoMemory) → ds' ≡ ds → rs' ≡ rs → Stepped k w c h ds rs r ds' rs'
+  refused c h ds rs (Ok u) ds' rs' f m p q = absurd (true-false (sym f))
+  refused c h ds rs (Err e) ds' rs' f m p q = (m, (p, q))
 
 -- what an answer promises where it is no error
 pub given_ok : {X E P : Type 0} (r : Result X E) → answered_ok r ≡ true → OnOk r P → P
 given_ok (Ok x) e p = p
 given_ok (Err x) e p = absurd (true-false (sym e))
-
-none-taken : {X : Type 0} (n : ℕ) → take {A = X} n [] ≡ []
-none-taken zero = refl
-none-taken (suc n) = refl
-
--- a vector of none, filled up with zeros
-pub fresh : (n : ℕ) (xs : List ℕ) (m : ℕ) → xs ≡ [] → m ≡ 0 → take n xs ++ replicate (n - m) 0 ≡ replicate n 0
-fresh n xs m e f =
-    let zs : ℕ → List ℕ = λ z. replicate z 0 in
-    ap (λ z. take n z ++ zs (n - m)) e ∙ (ap (λ z. z ++ zs (n - m)) (none-taken n) ∙ (ap (λ z. zs (n - z)) f ∙ ap zs (sub-zero n)))
 
 play_more : (cs : List Call) (c : Call) (h : History) → played (cs ++ (c ∷ [])) h ≡ event_of c ∷ played cs h
 play_more [] c h = refl

@@ -1,5 +1,5 @@
 -- A world of desks as the model sees it: where each desk stands after a history of calls.
-use Rattle.std.specs.Prelude.{◌≡◌, ℕ, ◌<◌, cond, List, [], ◌∷◌, length, replicate, Err, vec_items, Result, nat_lt, slice_index_or}
+use Rattle.std.specs.Prelude.{◌≡◌, ℕ, ◌<◌, Bool, cond, List, [], ◌∷◌, length, replicate, Err, vec_items, Result, nat_lt, slice_index_or}
 use Rattle.content.specs.Kinds.{Kind}
 use Rattle.content.specs.declared.kind.Content.{Ghosts}
 use Rattle.content.specs.declared.refusal.Refusal.{Refusal}
@@ -14,6 +14,11 @@ use Rattle.world.specs.declared.call.Reply.{Reply}
 use Rattle.world.specs.declared.call.What.{What}
 use Rattle.world.specs.declared.call.What.TheVariants.{HandIn, Tick, Offer, Sent}
 use Rattle.world.specs.declared.desk.Desk.{Desk}
+
+-- who leads and which seals stand in a setting
+pub record Rules (w : Setting) (leader : ℕ → ℕ) (accepts : ℕ → List ℕ → List ℕ → Bool) : Type 0 where
+  pub led : w.leader ≡ leader
+  pub checked : w.accepts ≡ accepts
 
 -- the model's call, with an outbox of so many bytes
 abbrev pub call_of : What → (room : ℕ) → Call

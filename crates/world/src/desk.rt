@@ -6,7 +6,7 @@ use seat::slip::Slip;
 
 pub struct Desk<const L: usize, const S: usize, C: Content<L>> {
     pub(crate) cells: Vec<Block<C::Record>>,
-    // how many of the cells are blocks
+    // how many of the cells are blocks; counted beside them, since the shelf of a call stands over cells that are lent to it
     pub(crate) filled: usize,
     pub(crate) slip: Option<Slip>,
     pub(crate) seat: Seat<L, S, C>,

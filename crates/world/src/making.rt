@@ -16,9 +16,7 @@ pub fn blank_cells<R: Copy>(
 ) -> Result<Vec<Block<R>>, AllocError>
     ensures { IfOk result (λ v. length v.items ≡ count) }
 {
-    let mut cells = Vec::new(heap);
-    cells.resize(count, blank)?;
-    Ok(cells)
+    Ok(vec![in heap; blank; count]?)
 }
 
 impl<const L: usize, const S: usize, C: Content<L>> Desk<L, S, C> {
@@ -48,11 +46,6 @@ impl<const L: usize, const S: usize, C: Content<L>> Desk<L, S, C> {
     pub fn blocks(&self) -> &[Block<C::Record>]
         ensures { result.now ≡ blocks_of self.now }
     {
-        let cells = self.cells.as_slice();
-        if self.filled < cells.len() {
-            &cells[0..self.filled]
-        } else {
-            cells
-        }
+        self.cells.get(..self.filled).unwrap_or(&self.cells)
     }
 }

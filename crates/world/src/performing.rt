@@ -3,7 +3,7 @@ ghost use Rattle.std.specs.Prelude.{◌≡◌, ℕ, length};
 ghost use Rattle.agreement.specs.History.{History};
 ghost use Rattle.agreement.specs.Setting.{Setting};
 ghost use Rattle.world.specs.Performing.{CalledAt, Performed};
-ghost use Rattle.world.specs.Worlds.{DeskAt, Stands, call_of, event_at};
+ghost use Rattle.world.specs.Worlds.{DeskAt, Rules, Stands, call_of, event_at};
 
 use crate::call::What;
 use crate::desk::Desk;
@@ -22,7 +22,7 @@ impl<const L: usize, const S: usize, C: Content<L>> Desk<L, S, C> {
         what: What<'_>,
         outbox: &mut [u8],
     ) -> Result<Answer, Refusal>
-        ensures does { (w : Setting) (i : ℕ) (h : History) → w.leader ≡ Q.Rota.leads rota.now → w.accepts ≡ K.SealCheck.accepts check.old → DeskAt C.Content.kind w i h self.old → Performed C.Content.kind w i (call_of what.entry (length outbox.old)) h outbox.old result self.new outbox.new }
+        ensures does { (w : Setting) (i : ℕ) (h : History) → Rules w (Q.Rota.leads rota.now) (K.SealCheck.accepts check.old) → DeskAt C.Content.kind w i h self.old → Performed C.Content.kind w i (call_of what.entry (length outbox.old)) h outbox.old result self.new outbox.new }
         ensures check { K.SealCheck.accepts check.new ≡ K.SealCheck.accepts check.old }
     {
         match what {
@@ -37,7 +37,8 @@ impl<const L: usize, const S: usize, C: Content<L>> Desk<L, S, C> {
     }
 }
 
-// Makes a call at the desk of a number: refused where there is none.
+// Makes a call at the desk of a number: refused where there is none. The desks, the rota and the check are no struct: where a
+// struct lends the desks, a proof does not know that a desk fits into memory, as a call at it asks.
 pub fn call_at<const L: usize, const S: usize, C: Content<L>, Q: Rota, K: SealCheck<S>>(
     desks: &mut [Desk<L, S, C>],
     rota: &Q,
@@ -46,13 +47,13 @@ pub fn call_at<const L: usize, const S: usize, C: Content<L>, Q: Rota, K: SealCh
     what: What<'_>,
     outbox: &mut [u8],
 ) -> Result<Answer, Refusal>
-    ensures does { (w : Setting) (h : History) → w.leader ≡ Q.Rota.leads rota.now → w.accepts ≡ K.SealCheck.accepts check.old → Stands C.Content.kind w h desks.old → CalledAt C.Content.kind w (length desks.old) (event_at seat (call_of what.entry (length outbox.old))) h outbox.old result desks.new outbox.new }
+    ensures does { (w : Setting) (h : History) → Rules w (Q.Rota.leads rota.now) (K.SealCheck.accepts check.old) → Stands C.Content.kind w h desks.old → CalledAt C.Content.kind w (length desks.old) (event_at seat (call_of what.entry (length outbox.old))) h outbox.old result desks.new outbox.new }
     ensures check { K.SealCheck.accepts check.new ≡ K.SealCheck.accepts check.old }
 {
     let at = seat as usize;
+    // indexed: after the `get_mut` of a slice nothing is known of its other elements
     if at >= desks.len() {
         return Err(Refusal::OutOfLimits);
     }
-    let desk = &mut desks[at];
-    desk.perform(rota, check, what, outbox)
+    desks[at].perform(rota, check, what, outbox)
 }

@@ -1,11 +1,12 @@
 // Replaying a list of calls at the desks of a world.
-ghost use Rattle.std.specs.Prelude.{◌≡◌, List, length, replicate, IfOk};
+ghost use Rattle.std.specs.Prelude.{◌≡◌, [], length, IfErr};
+ghost use Rattle.content.specs.declared.refusal.Refusal.TheVariants.{NoMemory};
 ghost use Rattle.agreement.specs.History.{History};
 ghost use Rattle.agreement.specs.Setting.{Setting};
 ghost use Rattle.world.specs.Replaying.{Counted, Ended, Played, Stepped};
-ghost use Rattle.world.specs.Worlds.{Stands};
+ghost use Rattle.world.specs.Worlds.{Rules, Stands};
 
-use crate::call::{Call, Replayed, Reply};
+use crate::call::{Call, Reply};
 use crate::desk::Desk;
 use crate::performing::call_at;
 use content::kind::Content;
@@ -14,13 +15,11 @@ use rota::leaders::Rota;
 use seals::check::SealCheck;
 use std::alloc::{AllocError, Global};
 
-// An outbox of so many zeros.
-fn zeros(heap: Global, room: usize) -> Result<Vec<u8>, AllocError>
-    ensures { IfOk result (λ v. v.items ≡ replicate room 0) }
+// What a call says where memory is wanting.
+fn no_memory(_: AllocError) -> Refusal
+    ensures { result ≡ NoMemory }
 {
-    let mut outbox = Vec::new(heap);
-    outbox.resize(room, 0)?;
-    Ok(outbox)
+    Refusal::NoMemory
 }
 
 // Makes one call, and keeps its reply. Memory is asked for first: where there is none, nothing is done.
@@ -32,16 +31,13 @@ pub fn step<const L: usize, const S: usize, C: Content<L>, Q: Rota, K: SealCheck
     call: Call<'_>,
     replies: &mut Vec<Reply>,
 ) -> Result<(), Refusal>
-    ensures does { (w : Setting) (h : History) → w.leader ≡ Q.Rota.leads rota.now → w.accepts ≡ K.SealCheck.accepts check.old → Stands C.Content.kind w h desks.old → Stepped C.Content.kind w call.entry h desks.old replies.old.items result desks.new replies.new.items }
+    ensures does { (w : Setting) (h : History) → Rules w (Q.Rota.leads rota.now) (K.SealCheck.accepts check.old) → Stands C.Content.kind w h desks.old → Stepped C.Content.kind w call.entry h desks.old replies.old.items result desks.new replies.new.items }
     ensures counts { Counted result (length replies.old.items) (length replies.new.items) }
+    ensures memory { IfErr result (λ e. e ≡ NoMemory) }
     ensures check { K.SealCheck.accepts check.new ≡ K.SealCheck.accepts check.old }
 {
-    let Ok(mut outbox) = zeros(heap, call.room) else {
-        return Err(Refusal::NoMemory);
-    };
-    if replies.reserve(1).is_err() {
-        return Err(Refusal::NoMemory);
-    }
+    let mut outbox = vec![in heap; 0; call.room].map_err(no_memory)?;
+    replies.reserve(1).map_err(no_memory)?;
     let answer = call_at::<L, S, C, Q, K>(
         desks,
         rota,
@@ -54,25 +50,22 @@ pub fn step<const L: usize, const S: usize, C: Content<L>, Q: Rota, K: SealCheck
     Ok(())
 }
 
-// Makes these calls in their order, as far as memory goes.
+// Makes these calls in their order, as far as memory goes, and keeps the replies, of which there are none before.
 pub fn play<const L: usize, const S: usize, C: Content<L>, Q: Rota, K: SealCheck<S>>(
     heap: Global,
     desks: &mut [Desk<L, S, C>],
     rota: &Q,
     check: &mut K,
     calls: &[Call<'_>],
-) -> Replayed
-    ensures does { (w : Setting) (h : History) → w.leader ≡ Q.Rota.leads rota.now → w.accepts ≡ K.SealCheck.accepts check.old → Stands C.Content.kind w h desks.old → Played C.Content.kind w (length result.replies.items) calls.now h (length desks.old) desks.new result.replies.items }
-    ensures ended { Ended result.ended (length result.replies.items) (length calls.now) }
+    replies: &mut Vec<Reply>,
+) -> Result<(), Refusal>
+    requires { replies.old.items ≡ [] }
+    ensures does { (w : Setting) (h : History) → Rules w (Q.Rota.leads rota.now) (K.SealCheck.accepts check.old) → Stands C.Content.kind w h desks.old → Played C.Content.kind w (length replies.new.items) calls.now h (length desks.old) desks.new replies.new.items }
+    ensures ended { Ended result (length replies.new.items) (length calls.now) }
     ensures check { K.SealCheck.accepts check.new ≡ K.SealCheck.accepts check.old }
 {
-    let mut replies = Vec::new(heap);
     for call in calls {
-        if step::<L, S, C, Q, K>(heap, desks, rota, check, *call, &mut replies).is_err() {
-            let ended = Err(Refusal::NoMemory);
-            return Replayed { replies, ended };
-        }
+        step::<L, S, C, Q, K>(heap, desks, rota, check, *call, replies)?;
     }
-    let ended = Ok(());
-    Replayed { replies, ended }
+    Ok(())
 }

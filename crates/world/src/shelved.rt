@@ -1,5 +1,7 @@
-// Calls of a seat on cells of which the first so many are its blocks.
-ghost use Rattle.std.specs.Prelude.{◌≡◌, ◌≤◌, length, take};
+// Calls of a seat on cells of which the first so many are its blocks. They are no part of the calls at a desk: in a function
+// that lends a desk's cells, nothing is known of the cells after a shelf over them is let go.
+ghost use Rattle.std.specs.Prelude.{◌≡◌, ◌≤◌, length, take, if◌then◌else◌};
+ghost use Rattle.shelf.specs.Cells.{can_take, empty_over, with_filled};
 ghost use Rattle.state.specs.Calls.{hand_in, tick};
 ghost use Rattle.seat.specs.Called.{Called};
 
@@ -12,6 +14,15 @@ use seat::seat::Seat;
 use seat::slip::Slip;
 use shelf::Shelf;
 use state::answer::Answer;
+
+// A shelf over these cells, of which the first so many are its blocks; none are, where there are not that many.
+fn shelf_over<R: Copy>(cells: &mut [Block<R>], filled: usize) -> Shelf<'_, R>
+    ensures { result ≡ (if can_take (empty_over cells.entry) filled then with_filled (empty_over cells.entry) filled else empty_over cells.entry) }
+{
+    let mut shelf = Shelf::new(cells);
+    let _ = shelf.take_filled(filled);
+    shelf
+}
 
 // Hands a message in; answers also how many of the cells are blocks then.
 pub fn hand_in<const L: usize, const S: usize, C: Content<L>, Q: Rota, K: SealCheck<S>>(
@@ -28,11 +39,9 @@ pub fn hand_in<const L: usize, const S: usize, C: Content<L>, Q: Rota, K: SealCh
     ensures terms { seat.new.terms ≡ seat.old.terms }
     ensures check { K.SealCheck.accepts check.new ≡ K.SealCheck.accepts check.old }
 {
-    let mut shelf = Shelf::new(cells);
-    let _ = shelf.take_filled(filled);
+    let mut shelf = shelf_over(cells, filled);
     let outcome = seat.hand_in(&mut shelf, rota, check, inbox, outbox);
-    let filled = shelf.len();
-    (outcome, filled)
+    (outcome, shelf.len())
 }
 
 // One tick; the cells stay as they are.
@@ -46,7 +55,5 @@ pub fn tick<const L: usize, const S: usize, C: Content<L>>(
     ensures cells { cells.new ≡ cells.old }
     ensures terms { seat.new.terms ≡ seat.old.terms }
 {
-    let mut shelf = Shelf::new(cells);
-    let _ = shelf.take_filled(filled);
-    seat.tick(&shelf, outbox)
+    seat.tick(&shelf_over(cells, filled), outbox)
 }

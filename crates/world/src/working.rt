@@ -17,9 +17,8 @@ impl<const L: usize, const S: usize, C: Content<L>> Desk<L, S, C> {
     fn keep(&mut self, slip: Slip)
         ensures { SlipKept self.old self.new }
     {
-        match std::mem::replace(&mut self.slip, Some(slip)) {
-            None => {}
-            Some(old) => self.seat.sent(old),
+        if let Some(old) = self.slip.replace(slip) {
+            self.seat.sent(old);
         }
     }
 
@@ -27,13 +26,9 @@ impl<const L: usize, const S: usize, C: Content<L>> Desk<L, S, C> {
     fn settle(&mut self, outcome: Result<(Answer, Slip), Refusal>) -> Result<Answer, Refusal>
         ensures { Settled outcome self.old result self.new }
     {
-        match outcome {
-            Err(e) => Err(e),
-            Ok((answer, slip)) => {
-                self.keep(slip);
-                Ok(answer)
-            }
-        }
+        let (answer, slip) = outcome?;
+        self.keep(slip);
+        Ok(answer)
     }
 
     // Hands a message in at this desk.
@@ -47,11 +42,10 @@ impl<const L: usize, const S: usize, C: Content<L>> Desk<L, S, C> {
         ensures work { Tidy self.old → Worked C.Content.kind (hand_in C.Content.kind self.old.seat.terms (Q.Rota.leads rota.now) (K.SealCheck.accepts check.old) self.old.seat.state (blocks_of self.old) (cells_of self.old) inbox.now (length outbox.old)) self.old outbox.old result self.new outbox.new }
         ensures check { K.SealCheck.accepts check.new ≡ K.SealCheck.accepts check.old }
     {
-        let filled = self.filled;
         let (outcome, filled) = hand_in::<L, S, C, Q, K>(
             &mut self.seat,
             self.cells.as_mut_slice(),
-            filled,
+            self.filled,
             rota,
             check,
             inbox,
@@ -65,11 +59,10 @@ impl<const L: usize, const S: usize, C: Content<L>> Desk<L, S, C> {
     pub fn tick(&mut self, outbox: &mut [u8]) -> Result<Answer, Refusal>
         ensures { Tidy self.old → Worked C.Content.kind (tick self.old.seat.terms self.old.seat.state (blocks_of self.old) (length outbox.old)) self.old outbox.old result self.new outbox.new }
     {
-        let filled = self.filled;
         let outcome = tick_over::<L, S, C>(
             &mut self.seat,
             self.cells.as_mut_slice(),
-            filled,
+            self.filled,
             outbox,
         );
         self.settle(outcome)
@@ -92,9 +85,8 @@ impl<const L: usize, const S: usize, C: Content<L>> Desk<L, S, C> {
     pub fn sent(&mut self)
         ensures { Tidy self.old → Freed self.old self.new }
     {
-        match self.slip.take() {
-            None => {}
-            Some(slip) => self.seat.sent(slip),
+        if let Some(slip) = self.slip.take() {
+            self.seat.sent(slip);
         }
     }
 }

@@ -7,7 +7,7 @@ ghost use Rattle.agreement.specs.Setting.{Lawful, Setting};
 ghost use Rattle.agreement.specs.Theorem.{Agreement, Agrees};
 ghost use Rattle.world.specs.Making.{CanBegin};
 ghost use Rattle.world.specs.Replaying.{Ended, Played};
-ghost use Rattle.world.specs.Worlds.{Stands, played};
+ghost use Rattle.world.specs.Worlds.{Rules, Stands, played};
 
 use crate::call::{Call, Replayed};
 use crate::desk::Desk;
@@ -27,7 +27,7 @@ pub fn replay<const L: usize, const S: usize, C: Content<L>, Q: Rota, K: SealChe
     check: &mut K,
     calls: &[Call<'_>],
 ) -> Replayed
-    ensures world { (w : Setting) (h : History) → w.leader ≡ Q.Rota.leads rota.now → w.accepts ≡ K.SealCheck.accepts check.old → Stands C.Content.kind w h world.old → Played C.Content.kind w (length result.replies.items) calls.now h (length world.old) world.new result.replies.items }
+    ensures world { (w : Setting) (h : History) → Rules w (Q.Rota.leads rota.now) (K.SealCheck.accepts check.old) → Stands C.Content.kind w h world.old → Played C.Content.kind w (length result.replies.items) calls.now h (length world.old) world.new result.replies.items }
     ensures begins { CanBegin C.Content.kind (Q.Rota.leads rota.now) (K.SealCheck.accepts check.old) world.old }
     ensures ended { Ended result.ended (length result.replies.items) (length calls.now) }
     ensures check { K.SealCheck.accepts check.new ≡ K.SealCheck.accepts check.old }
@@ -35,5 +35,7 @@ pub fn replay<const L: usize, const S: usize, C: Content<L>, Q: Rota, K: SealChe
     ensures always { Agreement S C.Content.kind }
     ensures laws { LawsOfSeats S C.Content.kind }
 {
-    play::<L, S, C, Q, K>(heap, world, rota, check, calls)
+    let mut replies = Vec::new(heap);
+    let ended = play::<L, S, C, Q, K>(heap, world, rota, check, calls, &mut replies);
+    Replayed { replies, ended }
 }

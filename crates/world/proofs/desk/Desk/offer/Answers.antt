@@ -1,12 +1,11 @@
-use Rattle.std.proofs.Common.{length, refl, le_trans, lt_of_le_of_lt, le-add_left}
-use prog.Align.{up-ge}
+use Rattle.std.proofs.Common.{length, refl}
+use Rattle.world.proofs.Sizes.{part_fits}
 use Rattle.world.specs.Desks.{blocks_of}
 use Rattle.world.proofs.Works.{works}
 use Rattle.world.proofs.desk.Desk.offer.Goals as goal
 
--- a desk has room for its seat: the bound on the whole is one on the part
 pub offer-outcome-requires : goal.offer-outcome-requires
-offer-outcome-requires g c = lt_of_le_of_lt (le_trans (le-add_left _ _) (up-ge _ _)) c.requires-raw.1.1.1.1.1
+offer-outcome-requires g c = part_fits _ _ _ _ c.requires-raw.1.1.1.1.1
 
 pub returns : goal.returns
 returns g c tidy =

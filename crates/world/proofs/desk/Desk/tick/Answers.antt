@@ -1,12 +1,11 @@
-use Rattle.std.proofs.Common.{◌≤◌, length, sym, ◌∙◌, subst, le_trans, lt_of_le_of_lt, le-add_left}
-use prog.Align.{up-ge}
+use Rattle.std.proofs.Common.{◌≤◌, length, sym, ◌∙◌, subst}
+use Rattle.world.proofs.Sizes.{part_fits}
 use Rattle.state.specs.Calls.{tick}
 use Rattle.world.proofs.Works.{lent, works}
 use Rattle.world.proofs.desk.Desk.tick.Goals as goal
 
--- a desk has room for its seat: the bound on the whole is one on the part
 pub tick-outcome-requires : goal.tick-outcome-requires
-tick-outcome-requires g c = lt_of_le_of_lt (le_trans (le-add_left _ _) (up-ge _ _)) c.requires-raw.1.1.1.1
+tick-outcome-requires g c = part_fits _ _ _ _ c.requires-raw.1.1.1.1
 
 pub returns : goal.returns
 returns g c tidy =
