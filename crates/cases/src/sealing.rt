@@ -1,4 +1,6 @@
 // Seals that are made, checked, and refused once anything is changed.
+ghost use Rattle.std.specs.Prelude.{◌/◌, ◌<◌};
+
 use crate::vectors::rising_bytes;
 use content::refusal::Refusal;
 use seals::asked::{Question, ask, same_in_any_order};
@@ -16,16 +18,20 @@ fn a_house_seal_stands_until_one_bit_is_turned(rt: HostRuntime) -> Result<(), Fa
     let seal = house.sign(1, 2, &BODY).ok_or("no key")?;
     assert!(rt; house.check(1, 2, &BODY, &seal));
     for bit in 0..64 {
-        let mut turned = seal;
-        turned[bit / 8] ^= 1 << (bit % 8);
-        assert!(rt; !house.check(1, 2, &BODY, &turned));
+        assert!(rt; !house.check(1, 2, &BODY, &turned(seal, bit)));
     }
     for bit in 0..96 {
-        let mut turned = BODY;
-        turned[bit / 8] ^= 1 << (bit % 8);
-        assert!(rt; !house.check(1, 2, &turned, &seal));
+        assert!(rt; !house.check(1, 2, &turned(BODY, bit), &seal));
     }
     Ok(())
+}
+
+// The same bytes with one bit turned.
+fn turned<const N: usize>(mut bytes: [u8; N], bit: usize) -> [u8; N]
+    requires { bit / 8 < N }
+{
+    bytes[bit / 8] ^= 1 << (bit % 8);
+    bytes
 }
 
 #[test]
@@ -44,15 +50,14 @@ fn a_house_seal_is_of_one_seat_tag_and_length(rt: HostRuntime) -> Result<(), Fai
 }
 
 #[test]
-fn a_row_of_keys_is_sixteen_bytes_a_seat(rt: HostRuntime) -> Result<(), Fail> {
+fn a_row_of_keys_is_sixteen_bytes_a_seat(rt: HostRuntime) {
     let keys = rising_bytes();
     for (len, n) in [(47, 3), (49, 3), (48, 5), (64, 4), (16, 1), (0, 0)] {
-        match HouseSeals::new(&keys[0..len], n) {
-            Err(e) => assert_eq!(rt; e, Refusal::OutOfLimits),
-            Ok(_) => return Err(Fail::new("a row that does not fit")),
-        }
+        assert_eq!(rt;
+            HouseSeals::new(&keys[..len], n).err(),
+            Some(Refusal::OutOfLimits)
+        );
     }
-    Ok(())
 }
 
 #[test]

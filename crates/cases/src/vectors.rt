@@ -2,6 +2,7 @@
 // 0 to 63 of them.
 use seals::house::HouseSeals;
 use seals::siphash::sip_hash;
+use std::array::from_fn;
 use std::test::Fail;
 
 const KEY: [u8; 16] = [0, 1, 2, 3, 4, 5, 6, 7, 8, 9, 10, 11, 12, 13, 14, 15];
@@ -75,18 +76,14 @@ const PUBLISHED: [u64; 64] = [
 
 // The bytes 0 to 63.
 pub fn rising_bytes() -> [u8; 64] {
-    let mut bytes = [0; 64];
-    for i in 0..64u8 {
-        bytes[i as usize] = i;
-    }
-    bytes
+    from_fn(|i| i as u8)
 }
 
 #[test]
 fn published_answers_of_whole_messages(rt: HostRuntime) {
     let bytes = rising_bytes();
-    for len in 0..64 {
-        assert_eq!(rt; sip_hash(&KEY, &bytes[0..len]), PUBLISHED[len]);
+    for (len, answer) in PUBLISHED.iter().enumerate() {
+        assert_eq!(rt; sip_hash(&KEY, &bytes[..len]), *answer);
     }
 }
 
@@ -95,10 +92,10 @@ fn published_answers_of_whole_messages(rt: HostRuntime) {
 fn published_answers_as_house_seals(rt: HostRuntime) -> Result<(), Fail> {
     let bytes = rising_bytes();
     let house = HouseSeals::new(&bytes[0..48], 3)?;
-    for len in 1..64 {
+    for (len, answer) in PUBLISHED.iter().enumerate().skip(1) {
         assert_eq!(rt;
             house.sign(0, 0, &bytes[1..len]),
-            Some(PUBLISHED[len].to_le_bytes())
+            Some(answer.to_le_bytes())
         );
     }
     Ok(())

@@ -5,9 +5,9 @@ mod contents;
 mod hex;
 mod leading;
 mod proposing;
-mod refused;
 mod sealing;
 mod shelving;
+mod tell;
 
 use std::io;
 

@@ -1,7 +1,7 @@
 // One message: made, written, sealed and opened; damaged, it is refused.
 use crate::hex::Hex;
-use crate::refused::refused;
 use crate::sealing::KEYS;
+use crate::tell::tell;
 use blocks::block::{Block, Rank};
 use blocks::seats::SeatCount;
 use content::edit::Edit;
@@ -17,15 +17,15 @@ use wire::writer::{OUTBOX, write};
 // The length of a proposal at height 1.
 const LENGTH: usize = 38;
 
+// Where its seal begins. The seal is on what stands before, without the first byte.
+const SEAL: usize = 30;
+
 // Seat 1 proposes Ana's trim as the log's first entry.
 pub fn proposal(rt: &impl Print) -> io::Result<()> {
     println!(rt;
         "Three seats lead in turn. Seat 1 leads view 1, and proposes Ana's trim as the first entry."
     )?;
-    match sealed() {
-        Ok(message) => shown(rt, &message),
-        Err(no) => refused(rt, "The proposal", no),
-    }
+    tell(rt, "The proposal", sealed(), |message| shown(rt, &message))
 }
 
 fn shown(rt: &impl Print, message: &[u8; LENGTH]) -> io::Result<()> {
@@ -61,34 +61,36 @@ fn sealed() -> Result<[u8; LENGTH], Refusal> {
     let mut message = [0; LENGTH];
     message.copy_from_slice(&outbox[0..LENGTH]);
     let house = HouseSeals::new(&KEYS, 3)?;
-    if let Some(seal) = house.sign(1, 1, &message[1..30]) {
-        message[30..38].copy_from_slice(&seal);
+    if let Some(seal) = house.sign(1, 1, &message[1..SEAL]) {
+        message[SEAL..].copy_from_slice(&seal);
     }
     Ok(message)
 }
 
 // Each field with its offset.
 fn fields(rt: &impl Print, message: &[u8; LENGTH]) -> io::Result<()> {
-    field(rt, 0, "kind", &message[0..1])?;
-    field(rt, 1, "view", &message[1..3])?;
-    field(rt, 3, "turn", &message[3..5])?;
-    field(rt, 5, "height", &message[5..9])?;
-    field(rt, 9, "parent's view", &message[9..11])?;
-    field(rt, 11, "parent's turn", &message[11..13])?;
-    field(rt, 13, "edit", &message[13..30])?;
-    field(rt, 30, "leader's seal", &message[30..38])
-}
-
-fn field(rt: &impl Print, at: usize, name: &str, bytes: &[u8]) -> io::Result<()> {
-    println!(rt; "  at byte {at}, the {name}: {}", Hex(bytes))
+    let fields = [
+        ("kind", 0, 1),
+        ("view", 1, 3),
+        ("turn", 3, 5),
+        ("height", 5, 9),
+        ("parent's view", 9, 11),
+        ("parent's turn", 11, 13),
+        ("edit", 13, SEAL),
+        ("leader's seal", SEAL, LENGTH),
+    ];
+    for (name, at, end) in fields {
+        let bytes = message.get(at..end).unwrap_or_default();
+        println!(rt; "  at byte {at}, the {name}: {}", Hex(bytes))?;
+    }
+    Ok(())
 }
 
 // What opening these bytes says.
 fn handed_in(rt: &impl Print, what: &str, bytes: &[u8]) -> io::Result<()> {
-    match opened(bytes) {
-        Ok(()) => println!(rt; "{what} is opened: its fields are lawful and its seal is good."),
-        Err(no) => refused(rt, what, no),
-    }
+    tell(rt, what, opened(bytes), |()| {
+        println!(rt; "{what} is opened: its fields are lawful and its seal is good.")
+    })
 }
 
 // Opens a message of a log of three seats that lead in turn, under the house's keys.
@@ -96,55 +98,51 @@ fn opened(bytes: &[u8]) -> Result<(), Refusal> {
     let mut house = HouseSeals::new(&KEYS, 3)?;
     let rota = RoundRobin::new(3)?;
     let seats = SeatCount::new(3)?;
-    match open::<17, 8, Edit, RoundRobin, HouseSeals>(seats, bytes, &rota, &mut house) {
-        Ok(_) => Ok(()),
-        Err(no) => Err(no),
-    }
+    open::<17, 8, Edit, RoundRobin, HouseSeals>(seats, bytes, &rota, &mut house)?;
+    Ok(())
 }
 
 fn cut_or_longer(rt: &impl Print, message: &[u8; LENGTH]) -> io::Result<()> {
     handed_in(rt, "No byte at all", &[])?;
-    handed_in(rt, "The proposal without its last byte", &message[0..37])?;
+    handed_in(
+        rt,
+        "The proposal without its last byte",
+        &message[0..LENGTH - 1],
+    )?;
     handed_in(rt, "The proposal with a byte behind it", &longer(message))
 }
 
 // A message with a zero behind it.
-fn longer(message: &[u8; LENGTH]) -> [u8; 39] {
-    let mut out = [0; 39];
-    out[0..LENGTH].copy_from_slice(message);
+fn longer(message: &[u8; LENGTH]) -> [u8; LENGTH + 1] {
+    let mut out = [0; LENGTH + 1];
+    out[..LENGTH].copy_from_slice(message);
     out
 }
 
 // Each damage is to one byte of the message.
 fn replaced(rt: &impl Print, message: &[u8; LENGTH]) -> io::Result<()> {
-    handed_in(
-        rt,
-        "The proposal as a message of kind 9",
-        &with(message, 0, 9),
-    )?;
-    handed_in(rt, "The proposal with turn 1", &with(message, 3, 1))?;
-    handed_in(
-        rt,
-        "The proposal of an edit with tag 4",
-        &with(message, 13, 4),
-    )?;
-    handed_in(
-        rt,
-        "The proposal with a bit of its seal turned",
-        &with(message, 30, message[30] ^ 1),
-    )?;
-    handed_in(
-        rt,
-        "The proposal moved to view 2, which seat 2 leads,",
-        &with(message, 1, 2),
-    )
+    let damages = [
+        ("The proposal as a message of kind 9", 0, 9),
+        ("The proposal with turn 1", 3, 1),
+        ("The proposal of an edit with tag 4", 13, 4),
+        (
+            "The proposal with a bit of its seal turned",
+            SEAL,
+            message[SEAL] ^ 1,
+        ),
+        ("The proposal moved to view 2, which seat 2 leads,", 1, 2),
+    ];
+    for (what, at, byte) in damages {
+        handed_in(rt, what, &with(message, at, byte))?;
+    }
+    Ok(())
 }
 
 // A message with another byte in one place.
 fn with(message: &[u8; LENGTH], at: usize, byte: u8) -> [u8; LENGTH] {
     let mut other = *message;
-    if at < LENGTH {
-        other[at] = byte;
+    if let Some(place) = other.get_mut(at) {
+        *place = byte;
     }
     other
 }

@@ -1,6 +1,6 @@
 // Seals of the house: made by its signing box, checked, and refused once a bit is turned.
 use crate::hex::Hex;
-use crate::refused::refused;
+use crate::tell::tell;
 use seals::check::SealCheck;
 use seals::house::HouseSeals;
 use std::io;
@@ -16,10 +16,9 @@ const VIEW: [u8; 2] = [7, 0];
 // Seat 1 has its blame of view 7 sealed.
 pub fn blame(rt: &impl Print) -> io::Result<()> {
     println!(rt; "Seat 1 states that view 7 should end: 03{}", Hex(&VIEW))?;
-    match HouseSeals::new(&KEYS, 3) {
-        Ok(house) => signed(rt, house),
-        Err(no) => refused(rt, "The row of keys", no),
-    }
+    tell(rt, "The row of keys", HouseSeals::new(&KEYS, 3), |house| {
+        signed(rt, house)
+    })
 }
 
 fn signed(rt: &impl Print, mut house: HouseSeals) -> io::Result<()> {

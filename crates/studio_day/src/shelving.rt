@@ -1,5 +1,5 @@
 // A shelf of two cells: blocks stored, read below a rank, and refused once it is full.
-use crate::refused::refused;
+use crate::tell::tell;
 use blocks::block::{Block, Rank};
 use content::edit::{Edit, EditRecord};
 use content::refusal::Refusal;
@@ -8,10 +8,7 @@ use std::io;
 
 pub fn two_cells(rt: &impl Print) -> io::Result<()> {
     println!(rt; "A shelf has room for two blocks.")?;
-    match entries() {
-        Ok(blocks) => filled(rt, &blocks),
-        Err(no) => refused(rt, "An edit", no),
-    }
+    tell(rt, "An edit", entries(), |blocks| filled(rt, &blocks))
 }
 
 // Three blocks of view 0, each on the one before: a trim, a gain and a save.
@@ -42,9 +39,9 @@ fn filled(rt: &impl Print, blocks: &[Block<EditRecord>; 3]) -> io::Result<()> {
     let mut shelf = Shelf::new(&mut cells);
     stored(rt, &mut shelf, "Ana's trim, at turn 0 and height 1,", trim)?;
     stored(rt, &mut shelf, "Ben's gain, at turn 1 and height 2,", gain)?;
-    read(rt, &shelf, 1)?;
-    read(rt, &shelf, 2)?;
-    read(rt, &shelf, 3)?;
+    for height in 1..=3 {
+        read(rt, &shelf, height)?;
+    }
     stored(rt, &mut shelf, "A save, at turn 2 and height 3,", save)
 }
 
@@ -54,23 +51,23 @@ fn stored(
     what: &str,
     block: Block<EditRecord>,
 ) -> io::Result<()> {
-    match shelf.store(block) {
-        Ok(()) => println!(rt; "{what} is stored: {} of {}.", shelf.len(), shelf.size()),
-        Err(no) => refused(rt, what, no),
-    }
+    let outcome = shelf.store(block);
+    tell(rt, what, outcome, |()| {
+        println!(rt; "{what} is stored: {} of {}.", shelf.len(), shelf.size())
+    })
 }
 
 // Reads a height below the block of turn 1.
 fn read(rt: &impl Print, shelf: &Shelf<EditRecord>, height: u32) -> io::Result<()> {
-    match shelf.read_below(Some(Rank { view: 0, turn: 1 }), height) {
-        Ok(Some(found)) => println!(rt;
+    let found = shelf.read_below(Some(Rank { view: 0, turn: 1 }), height);
+    tell(rt, "The reading", found, |block| match block {
+        Some(block) => println!(rt;
             "Height {height} below turn 1 is the block of turn {}: {}.",
-            found.rank.turn,
-            named(&found.content)
+            block.rank.turn,
+            named(&block.content)
         ),
-        Ok(None) => println!(rt; "Height {height} below turn 1 is nothing."),
-        Err(no) => refused(rt, "The reading", no),
-    }
+        None => println!(rt; "Height {height} below turn 1 is nothing."),
+    })
 }
 
 fn named(record: &EditRecord) -> &'static str {
