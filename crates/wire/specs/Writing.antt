@@ -1,5 +1,6 @@
 -- Writing a message: how many bytes it takes, and what the memory holds afterwards.
 use Rattle.std.specs.Prelude.{◌≡◌, ℕ, ◌+◌, ◌≤◌, Bool, cond, List, ◌++◌, length, take, drop, Some, None, Ok, Err, Option, Result, nat_le, nat_lt}
+use Rattle.std.specs.Borrow.{MutBor}
 use Rattle.content.specs.Kinds.{Kind}
 use Rattle.content.specs.declared.refusal.Refusal.{Refusal}
 use Rattle.content.specs.declared.refusal.Refusal.TheVariants.{SmallOutbox}
@@ -17,6 +18,10 @@ pub record Put (out : List ℕ) (at : ℕ) (bytes : List ℕ) (out' : List ℕ) 
   pub is : out' ≡ placed out at bytes
   pub behind : end ≡ at + length bytes
   pub fits : end ≤ length out
+
+-- one loan of memory before and after: it is still the same memory, and as long
+abbrev pub SameMemory : MutBor (List ℕ) → MutBor (List ℕ) → Type 0
+SameMemory before after = (after.ghost_name ≡ before.ghost_name) × (length after.now ≡ length before.now)
 
 -- the length of a message, by its kind; a content has L bytes
 module _ (L : ℕ) {R : Type 0} where

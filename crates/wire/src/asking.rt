@@ -130,36 +130,22 @@ fn ask_all<'a, const L: usize, const S: usize, C: Content<L>, Q: Rota, K: SealCh
             block,
             seal,
             parent,
-        } => { ask_proposal::<L, S, C, Q, K>(seats, bytes, block, *seal, parent, rota, check) }
+        } => ask_proposal::<L, S, C, Q, K>(seats, bytes, block, *seal, parent, rota, check),
         Parts::Vote { seat, seal, .. } => {
-            ask::<S, K>(check, *seat, Statement::Vote, part(bytes, 2, 12 + L), *seal)
+            let body = part(bytes, 2, 12 + L);
+            ask::<S, K>(check, *seat, Statement::Vote, body, seal)
         }
-        Parts::Blame { seat, seal, .. } => ask::<S, K>(
-            check,
-            *seat,
-            Statement::Blame,
-            part(bytes, 2, 2),
-            *seal,
-        ),
+        Parts::Blame { seat, seal, .. } => {
+            let body = part(bytes, 2, 2);
+            ask::<S, K>(check, *seat, Statement::Blame, body, seal)
+        }
         Parts::Certified(c) => {
-            ask_row::<S, K>(
-                seats,
-                check,
-                c.mask,
-                Statement::Vote,
-                part(bytes, 1, 12 + L),
-                c.seals,
-            )
+            let body = part(bytes, 1, 12 + L);
+            ask_row::<S, K>(seats, check, c.mask, Statement::Vote, body, c.seals)
         }
         Parts::Notice { mask, seals, .. } => {
-            ask_row::<S, K>(
-                seats,
-                check,
-                *mask,
-                Statement::Blame,
-                part(bytes, 1, 2),
-                *seals,
-            )
+            let body = part(bytes, 1, 2);
+            ask_row::<S, K>(seats, check, *mask, Statement::Blame, body, seals)
         }
     }
 }

@@ -2,8 +2,8 @@
 ghost use Rattle.std.specs.Prelude.{◌≡◌, ◌+◌, ◌^◌, ◌<◌, ◌≤◌, length};
 ghost use Rattle.wire.specs.Layout.{block_bytes, body_bytes, message_bytes};
 ghost use Rattle.wire.specs.Meaning.{plain, plain_parent, plain_certificate};
-ghost use Rattle.wire.specs.Writing.{Put, body_size, parent_size, message_size, write_end, write_out, outbox_end, outbox_out};
-ghost use Rattle.wire.specs.declared.message.Parts.TheVariants.{Proposal, Vote, Blame, Certified, Notice};
+ghost use Rattle.wire.specs.declared.message.Parts.TheVariants.{Proposal};
+ghost use Rattle.wire.specs.Writing.{Put, SameMemory, body_size, parent_size, message_size, write_end, write_out, outbox_end, outbox_out};
 
 use crate::message::{Certificate, Message, MessageKind, Parts};
 use blocks::block::Block;
@@ -20,8 +20,7 @@ struct Pen<'a> {
 impl Pen<'_> {
     fn put(&mut self, bytes: &[u8])
         requires { self.old.at + length bytes.now ≤ length self.old.out.now }
-        ensures same_memory { self.new.out.ghost_name ≡ self.old.out.ghost_name }
-        ensures length { length self.new.out.now ≡ length self.old.out.now }
+        ensures memory { SameMemory self.old.out self.new.out }
         ensures bytes { Put self.old.out.now self.old.at bytes.now self.new.out.now self.new.at }
     {
         let end = self.at + bytes.len();
@@ -31,8 +30,7 @@ impl Pen<'_> {
 
     fn block<const L: usize, C: Content<L>>(&mut self, block: &Block<C::Record>)
         requires { self.old.at + 12 + L ≤ length self.old.out.now }
-        ensures same_memory { self.new.out.ghost_name ≡ self.old.out.ghost_name }
-        ensures length { length self.new.out.now ≡ length self.old.out.now }
+        ensures memory { SameMemory self.old.out self.new.out }
         ensures bytes { Put self.old.out.now self.old.at (block_bytes C.Content.kind block.now) self.new.out.now self.new.at }
         ensures size { self.new.at ≡ self.old.at + 12 + L }
     {
@@ -46,8 +44,7 @@ impl Pen<'_> {
 
     fn body<const L: usize, C: Content<L>>(&mut self, c: &Certificate<C::Record, &[u8]>)
         requires { self.old.at + body_size L (plain_certificate c.now) ≤ length self.old.out.now }
-        ensures same_memory { self.new.out.ghost_name ≡ self.old.out.ghost_name }
-        ensures length { length self.new.out.now ≡ length self.old.out.now }
+        ensures memory { SameMemory self.old.out self.new.out }
         ensures bytes { Put self.old.out.now self.old.at (body_bytes C.Content.kind (plain_certificate c.now)) self.new.out.now self.new.at }
         ensures size { self.new.at ≡ self.old.at + body_size L (plain_certificate c.now) }
     {
@@ -56,10 +53,28 @@ impl Pen<'_> {
         self.put(c.seals);
     }
 
+    fn proposal<const L: usize, C: Content<L>>(
+        &mut self,
+        block: &Block<C::Record>,
+        seal: &[u8],
+        parent: &Option<Certificate<C::Record, &[u8]>>,
+    )
+        requires { self.old.at + 13 + L + length seal.now + parent_size L (plain_parent parent.now) ≤ length self.old.out.now }
+        ensures memory { SameMemory self.old.out self.new.out }
+        ensures bytes { Put self.old.out.now self.old.at (message_bytes C.Content.kind (Proposal block.now seal.now (plain_parent parent.now))) self.new.out.now self.new.at }
+        ensures size { self.new.at ≡ self.old.at + 13 + L + length seal.now + parent_size L (plain_parent parent.now) }
+    {
+        self.put(&[MessageKind::Proposal as u8]);
+        self.block::<L, C>(block);
+        self.put(seal);
+        if let Some(c) = parent {
+            self.body::<L, C>(c);
+        }
+    }
+
     fn parts<const L: usize, C: Content<L>>(&mut self, parts: &Parts<C::Record, &[u8]>)
         requires { self.old.at + message_size L (plain parts.now) ≤ length self.old.out.now }
-        ensures same_memory { self.new.out.ghost_name ≡ self.old.out.ghost_name }
-        ensures length { length self.new.out.now ≡ length self.old.out.now }
+        ensures memory { SameMemory self.old.out self.new.out }
         ensures bytes { Put self.old.out.now self.old.at (message_bytes C.Content.kind (plain parts.now)) self.new.out.now self.new.at }
         ensures size { self.new.at ≡ self.old.at + message_size L (plain parts.now) }
     {
@@ -69,12 +84,7 @@ impl Pen<'_> {
                 seal,
                 parent,
             } => {
-                self.put(&[MessageKind::Proposal as u8]);
-                self.block::<L, C>(block);
-                self.put(seal);
-                if let Some(c) = parent {
-                    self.body::<L, C>(c);
-                }
+                self.proposal::<L, C>(block, seal, parent);
             }
             Parts::Vote { seat, block, seal } => {
                 self.put(&[MessageKind::Vote as u8, *seat]);

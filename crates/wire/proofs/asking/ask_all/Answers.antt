@@ -4,11 +4,11 @@ use Rattle.wire.specs.Meaning.{plain}
 use Rattle.wire.proofs.Located.{vote-lies, certified_lies}
 use Rattle.wire.proofs.asking.ask_all.Goals as goal
 
-pub part-requires : goal.part-requires
-part-requires g c = (vote-lies g.C.Content.kind g.row.S c.args.seats.n _ _ _ _ _ c.in-Vote.is c.requires.back c.requires.lawful).within
+pub part-body-requires : goal.part-body-requires
+part-body-requires g c = (vote-lies g.C.Content.kind g.row.S c.args.seats.n _ _ _ _ _ c.in-Vote.is c.requires.back c.requires.lawful).within
 
-pub part-requires-in-Certified : goal.part-requires-in-Certified
-part-requires-in-Certified g c = (certified_lies g.C.Content.kind g.row.S c.args.seats.n _ _ _ c.in-Certified.is c.requires.back c.requires.lawful).within
+pub part-body-requires-in-Certified : goal.part-body-requires-in-Certified
+part-body-requires-in-Certified g c = (certified_lies g.C.Content.kind g.row.S c.args.seats.n _ _ _ c.in-Certified.is c.requires.back c.requires.lawful).within
 
 pub returns-in-Proposal : goal.returns-in-Proposal
 returns-in-Proposal g c =
@@ -27,7 +27,7 @@ returns-in-Vote g c =
     record {
       value =
           c.ask.ensures.value ∙
-          ap (λ (body : List ℕ). judge accepts (asked_one c.in-Vote.seat (2 ∷ body) c.in-Vote.seal.now ∷ [])) (c.part.ensures ∙ own.is) ∙
+          ap (λ (body : List ℕ). judge accepts (asked_one c.in-Vote.seat (2 ∷ body) c.in-Vote.seal.now ∷ [])) (c.part-body.ensures ∙ own.is) ∙
           ap (λ m. judge accepts (asked g.C.Content.kind g.row.S c.args.seats.n (g.Q.Rota.leads c.args.rota.now) (plain m))) (sym c.in-Vote.is);
       kept = c.ask.ensures.kept;
     }
@@ -40,7 +40,7 @@ returns-in-Certified g c =
       value =
           c.ask_row.ensures.value ∙
           ap (λ (body : List ℕ). judge accepts (row_asked g.row.S c.in-Certified.c.mask 0 c.args.seats.n (2 ∷ body) c.in-Certified.c.seals.now))
-          (c.part-in-Certified.ensures ∙ own.is) ∙
+          (c.part-body-in-Certified.ensures ∙ own.is) ∙
           ap (λ m. judge accepts (asked g.C.Content.kind g.row.S c.args.seats.n (g.Q.Rota.leads c.args.rota.now) (plain m))) (sym c.in-Certified.is);
       kept = c.ask_row.ensures.kept;
     }
