@@ -10,37 +10,25 @@ part-body-requires g c = (vote-lies g.C.Content.kind g.row.S c.args.seats.n _ _ 
 pub part-body-requires-in-Certified : goal.part-body-requires-in-Certified
 part-body-requires-in-Certified g c = (certified_lies g.C.Content.kind g.row.S c.args.seats.n _ _ _ c.in-Certified.is c.requires.back c.requires.lawful).within
 
-pub returns-in-Proposal : goal.returns-in-Proposal
-returns-in-Proposal g c =
-    record {
-      value =
-          c.ask_proposal.ensures.value ∙
-          ap (λ m. judge (g.K.SealCheck.accepts c.args.check.now) (asked g.C.Content.kind g.row.S c.args.seats.n (g.Q.Rota.leads c.args.rota.now) (plain m)))
-          (sym c.in-Proposal.is);
-      kept = c.ask_proposal.ensures.kept;
-    }
+pub returns-in-Proposal-clause-value : goal.returns-in-Proposal-clause-value
+returns-in-Proposal-clause-value g c =
+    c.ask_proposal.ensures.value ∙
+    ap (λ m. judge (g.K.SealCheck.accepts c.args.check.now) (asked g.C.Content.kind g.row.S c.args.seats.n (g.Q.Rota.leads c.args.rota.now) (plain m)))
+    (sym c.in-Proposal.is)
 
-pub returns-in-Vote : goal.returns-in-Vote
-returns-in-Vote g c =
+pub returns-in-Vote-clause-value : goal.returns-in-Vote-clause-value
+returns-in-Vote-clause-value g c =
     let own = vote-lies g.C.Content.kind g.row.S c.args.seats.n _ _ _ _ _ c.in-Vote.is c.requires.back c.requires.lawful in
     let accepts = g.K.SealCheck.accepts c.args.check.now in
-    record {
-      value =
-          c.ask.ensures.value ∙
-          ap (λ (body : List ℕ). judge accepts (asked_one c.in-Vote.seat (2 ∷ body) c.in-Vote.seal.now ∷ [])) (c.part-body.ensures ∙ own.is) ∙
-          ap (λ m. judge accepts (asked g.C.Content.kind g.row.S c.args.seats.n (g.Q.Rota.leads c.args.rota.now) (plain m))) (sym c.in-Vote.is);
-      kept = c.ask.ensures.kept;
-    }
+    c.ask.ensures.value ∙
+    ap (λ (body : List ℕ). judge accepts (asked_one c.in-Vote.seat (2 ∷ body) c.in-Vote.seal.now ∷ [])) (c.part-body.ensures ∙ own.is) ∙
+    ap (λ m. judge accepts (asked g.C.Content.kind g.row.S c.args.seats.n (g.Q.Rota.leads c.args.rota.now) (plain m))) (sym c.in-Vote.is)
 
-pub returns-in-Certified : goal.returns-in-Certified
-returns-in-Certified g c =
+pub returns-in-Certified-clause-value : goal.returns-in-Certified-clause-value
+returns-in-Certified-clause-value g c =
     let own = certified_lies g.C.Content.kind g.row.S c.args.seats.n _ _ _ c.in-Certified.is c.requires.back c.requires.lawful in
     let accepts = g.K.SealCheck.accepts c.args.check.now in
-    record {
-      value =
-          c.ask_row.ensures.value ∙
-          ap (λ (body : List ℕ). judge accepts (row_asked g.row.S c.in-Certified.c.mask 0 c.args.seats.n (2 ∷ body) c.in-Certified.c.seals.now))
-          (c.part-body-in-Certified.ensures ∙ own.is) ∙
-          ap (λ m. judge accepts (asked g.C.Content.kind g.row.S c.args.seats.n (g.Q.Rota.leads c.args.rota.now) (plain m))) (sym c.in-Certified.is);
-      kept = c.ask_row.ensures.kept;
-    }
+    c.ask_row.ensures.value ∙
+    ap (λ (body : List ℕ). judge accepts (row_asked g.row.S c.in-Certified.c.mask 0 c.args.seats.n (2 ∷ body) c.in-Certified.c.seals.now))
+    (c.part-body-in-Certified.ensures ∙ own.is) ∙
+    ap (λ m. judge accepts (asked g.C.Content.kind g.row.S c.args.seats.n (g.Q.Rota.leads c.args.rota.now) (plain m))) (sym c.in-Certified.is)

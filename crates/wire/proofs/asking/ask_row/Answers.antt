@@ -8,16 +8,12 @@ pub split_at-requires : goal.split_at-requires
 split_at-requires g c =
     going_fits _ _ _ c.args.seats.n c.loop-seat.seat _ _ _ c.loop-seat.invariant.1 (omega arith) (sym c.has.ensures ∙ c.if-has.true)
 
-pub returns-in_err-ask : goal.returns-in_err-ask
-returns-in_err-ask g c =
+pub returns-in_err-ask-clause-value : goal.returns-in_err-ask-clause-value
+returns-in_err-ask-clause-value g c =
     let p = err_from_is_err_and c.from_residual.result c.from_residual.ensures.1 in
-    record {
-      value =
-          rw (p.1, p.2)
-          (going_no _ _ _ c.args.seats.n c.loop-seat.seat _ _ _ _ c.loop-seat.invariant.0 c.loop-seat.invariant.1 (omega arith)
-          (sym c.has.ensures ∙ c.if-has.true) _ c.split_at.ensures.front _ c.in_err-ask.ensures.value);
-      kept = c.ask.ensures.kept ∙ c.loop-seat.invariant.0;
-    }
+    rw (p.1, p.2)
+    (going_no _ _ _ c.args.seats.n c.loop-seat.seat _ _ _ _ c.loop-seat.invariant.0 c.loop-seat.invariant.1 (omega arith)
+    (sym c.has.ensures ∙ c.if-has.true) _ c.split_at.ensures.front _ c.in_err-ask.ensures.value)
 
 pub loop-seat-preserved : goal.loop-seat-preserved
 loop-seat-preserved g c =
@@ -35,9 +31,5 @@ loop-seat-preserved g c =
       )
     ]
 
-pub returns : goal.returns
-returns g c =
-    record {
-      value = going_end _ _ _ c.args.seats.n c.loop-seat.seat _ _ _ c.loop-seat.invariant.1 (omega arith);
-      kept = c.loop-seat.invariant.0;
-    }
+pub returns-clause-value : goal.returns-clause-value
+returns-clause-value g c = going_end _ _ _ c.args.seats.n c.loop-seat.seat _ _ _ c.loop-seat.invariant.1 (omega arith)
