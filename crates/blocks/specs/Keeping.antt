@@ -1,5 +1,5 @@
 -- Keeping seals by seat, and rows of seals in memory of a fixed size.
-use Rattle.std.specs.Prelude.{◌≡◌, ℕ, zero, suc, min, Bool, cond, ◌&&◌, List, [], ◌∷◌, length, is_some, Some, None, ◌==◌, nat_lt, slice_index_or, slice_set}
+use Rattle.std.specs.Prelude.{ℕ, zero, suc, Bool, cond, ◌&&◌, List, [], ◌∷◌, length, is_some, Some, None, ◌==◌, nat_lt, slice_index_or, slice_set}
 use Rattle.blocks.specs.Masks.{Kept}
 
 -- whether a seat's seal is there
@@ -15,8 +15,3 @@ unfoldable pub padded : ℕ → List ℕ → List ℕ
 padded zero row = []
 padded (suc room) [] = 0 ∷ padded room []
 padded (suc room) (x ∷ row) = x ∷ padded room row
-
--- such memory of 512 bytes, and the offset behind the row in it
-pub record Poured (xs row : List ℕ) (at : ℕ) : Type 0 where
-  pub is : row ≡ padded 512 xs
-  pub end : at ≡ min (length xs) 512
