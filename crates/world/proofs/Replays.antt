@@ -1,5 +1,5 @@
 -- One call more, and a list of calls.
-use Rattle.std.proofs.Common.{◌≡◌, ℕ, zero, suc, ◌+◌, ◌<◌, true, false, List, [], ◌∷◌, ◌++◌, length, get_or, take, replicate, is_err, is_ok as answered_ok, OnOk, Ok, Err, vec_items, Result, sym, refl, ap, ◌∙◌, subst, add-one, arith, take-suc}
+use Rattle.std.proofs.Common.{◌≡◌, ℕ, ◌+◌, ◌<◌, true, false, List, [], ◌∷◌, ◌++◌, length, get_or, take, replicate, is_err, is_ok as answered_ok, OnOk, Ok, Err, vec_items, Result, sym, refl, ap, ◌∙◌, subst, add-one, take-suc}
 use Rattle.std.specs.Result.{IfErr, IsErr}
 use lib.ListN.{length-replicate}
 use Rattle.content.specs.Kinds.{Kind}
@@ -88,9 +88,3 @@ counted-more (Err x) a b i f e c = absurd (true-false f)
 pub counted_same : (r : Result (Unit {0}) Refusal) (a b i : ℕ) → is_err r ≡ true → a ≡ i → Counted r a b → b ≡ i
 counted_same (Ok u) a b i f e c = absurd (true-false (sym f))
 counted_same (Err x) a b i f e c = c ∙ e
-
--- within a list the default does not matter
-pub any_default : {X : Type 0} (xs : List X) (i : ℕ) (a b : X) → i < length xs → get_or xs i a ≡ get_or xs i b
-any_default [] i a b h = absurd (omega arith)
-any_default (x ∷ xs) zero a b h = refl
-any_default (x ∷ xs) (suc i) a b h = any_default xs i a b (omega arith)

@@ -13,11 +13,6 @@ module _ {X : Type 0} where
   retake (suc n) [] = refl
   retake (suc n) (x ∷ xs) = ap (λ ys. x ∷ ys) (retake n xs)
 
-  pub taken-few : (n : ℕ) (xs : List X) → length (take n xs) ≤ length xs
-  taken-few zero xs = omega arith
-  taken-few (suc n) [] = omega arith
-  taken-few (suc n) (x ∷ xs) = let h = taken-few n xs in omega arith
-
 -- a shelf over these cells, so many of them filled
 abbrev pub shelf_over : {R : Type 0} → MutBor (List (Block R)) → ℕ → Shelf R
 shelf_over cells filled = record { cells = cells; len = filled }

@@ -1,5 +1,6 @@
 -- From a seat's call and its settling to what it does at a desk.
-use Rattle.std.proofs.Common.{◌≡◌, ℕ, ◌≤◌, Bool, true, false, cond, ltb, List, [], ◌∷◌, ◌++◌, length, take, drop, is_some, Ok, Err, vec_items, Result, Vec, sym, refl, ap, ◌∙◌, subst}
+use Rattle.std.proofs.Common.{◌≡◌, ℕ, ◌≤◌, Bool, true, false, cond, ltb, List, ◌++◌, length, take, drop, is_some, Ok, Err, vec_items, Result, Vec, sym, refl, ap, ◌∙◌, subst}
+use Rattle.std.proofs.Math.Seq.{take-append_seam}
 use Rattle.std.specs.Vec.{with_items}
 use Rattle.content.specs.Kinds.{Kind}
 use Rattle.content.specs.declared.kind.Content.{Ghosts}
@@ -80,13 +81,9 @@ module _ {L S : ℕ} {C R : Type 0} {bound : Ghosts C L R} (k : Kind L R) (d : D
       carried-works (guarded d.seat.state room x) p d₁ d₂ answer (was_free k room x d.seat.state p.0 c.call.answer) c s
 
 module _ {X : Type 0} where
-  take_whole : (ws ys : List X) → take (length ws) (ws ++ ys) ≡ ws
-  take_whole [] ys = refl
-  take_whole (w ∷ ws) ys = ap (λ zs. w ∷ zs) (take_whole ws ys)
-
   -- a vector lent as a slice holds afterwards what the slice then holds
   pub refill : {Z : Type 0} (v : Vec X Z) (ws : List X) → length ws ≡ length (vec_items v) → vec_items (with_items v ws) ≡ ws
-  refill v ws e = ap (λ n. take n (ws ++ drop (length ws) (vec_items v))) (v.ok.0 ∙ sym e) ∙ take_whole ws (drop (length ws) (vec_items v))
+  refill v ws e = ap (λ n. take n (ws ++ drop (length ws) (vec_items v))) (v.ok.0 ∙ sym e) ∙ take-append_seam ws (drop (length ws) (vec_items v))
 
 module _ {L S : ℕ} {C R : Type 0} {bound : Ghosts C L R} (k : Kind L R) (d : Desk L S C R bound) (tidy : Tidy d) (out out' : List ℕ) where
   -- a desk whose cells were lent to its seat's call: xs before it, ws after it

@@ -19,9 +19,8 @@ impl<const L: usize, const S: usize, C: Content<L>> Drop for Desk<L, S, C> {
             cells,
             filled: _,
             slip,
-            seat,
+            mut seat,
         } = self;
-        let mut seat = seat;
         if let Some(slip) = slip {
             seat.sent(slip);
         }

@@ -1,7 +1,8 @@
 use Rattle.std.proofs.Common.{length, is_err, vec_items, sym, refl, ap, ◌∙◌, subst}
+use Rattle.std.proofs.lemmas.List.{get_or_default}
 use Rattle.world.specs.Replaying.{Played}
 use Rattle.world.specs.Worlds.{Rules}
-use Rattle.world.proofs.Replays.{any_default, counted-more, counted_same, played-more, played-none, played-same}
+use Rattle.world.proofs.Replays.{counted-more, counted_same, played-more, played-none, played-same}
 use Rattle.world.proofs.replaying.play.Goals as goal
 
 pub loop-call-init : goal.loop-call-init
@@ -31,7 +32,7 @@ loop-call-preserved g c =
       does = λ w h rules stands.
           let now = subst (λ a. Rules w (g.Q.Rota.leads c.args.rota.now) a) (sym inv.check) rules in
           played-more g.C.Content.kind w h (length c.args.desks.now) c.loop-call.call-index c.args.calls.now _ c.loop-call.desks c.step.new.desks (vec_items c.loop-call.replies)
-          (vec_items c.step.new.replies) c.step.result c.loop-call-test.true (any_default c.args.calls.now c.loop-call.call-index _ _ c.loop-call-test.true) c.loop-call.auto.desks (inv.does w h rules stands) done
+          (vec_items c.step.new.replies) c.step.result c.loop-call-test.true (get_or_default c.args.calls.now c.loop-call.call-index _ _ c.loop-call-test.true) c.loop-call.auto.desks (inv.does w h rules stands) done
           (c.step.ensures.does w _ now (inv.does w h rules stands).stands);
     }
 
