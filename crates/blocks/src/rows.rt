@@ -4,7 +4,8 @@ ghost use Rattle.std.specs.Iterator.{IsFinite, AlwaysYields};
 ghost use Rattle.blocks.specs.Keeping.{has_kept, keep_seal, padded};
 ghost use Rattle.blocks.specs.Masks.{count_kept, mask_kept, row_kept};
 
-// How much memory holds a row of seals: 8 of 64 bytes.
+// How much memory holds a row of seals: 8 of 64 bytes. It is of a fixed size, since a seat takes no heap; how long the
+// row in it is follows from its set of seats.
 pub const ROW: usize = 512;
 
 // The seals of some seats on one statement: for each of the 15 possible seats its seal, if it is there.
@@ -20,6 +21,7 @@ fn row_of<'a, I: Iterator<Item = &'a u8>>(bytes: I) -> [u8; ROW]
     ensures { (xs : List ℕ) → AlwaysYields I.next_gives (λ b. b.now) bytes xs → result ≡ padded 512 xs }
 {
     let mut row = [0; ROW];
+    // by index: what is written through a zip over iter_mut is not known of the row afterwards
     for (at, byte) in bytes.take(ROW).enumerate() {
         row[at] = *byte;
     }
@@ -86,7 +88,7 @@ impl<const S: usize> SealRow<S> {
         let Ok(copy) = <[u8; S]>::try_from(seal) else {
             return;
         };
-        // By index: what is written through get_mut's reference is not known of the array afterwards.
+        // by index: what is written through get_mut's reference is not known of the array afterwards
         self.by_seat[seat as usize] = Some(copy);
     }
 }

@@ -6,7 +6,8 @@ ghost use Rattle.blocks.specs.Masks.{quorum};
 use content::refusal::Refusal;
 use rota::leaders::seats_in_limits;
 
-// A number of seats that a log may have: odd, 3 to 15.
+// A number of seats that a log may have: odd, 3 to 15. RoundRobin keeps the same number, and no SeatCount, since its own
+// clauses speak of it as the rota's.
 #[derive(Clone, Copy)]
 pub struct SeatCount {
     n: u8,

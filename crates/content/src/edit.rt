@@ -68,18 +68,6 @@ fn bits_of(x: f64) -> u64
     f64_to_bits_with_nan(x)
 }
 
-// Whether a tag and the bits of two numbers are an edit.
-fn is_edit(tag: u8, first: u64, second: u64) -> bool
-    ensures { result ≡ is_edit tag first second }
-{
-    match tag {
-        0 => is_second(first) && is_second(second) && is_below(first, second),
-        1 => is_second(first) && is_gain(second),
-        2 | 3 => first == 0 && second == 0,
-        _ => false,
-    }
-}
-
 impl EditRecord {
     // Whether the record is an edit, and so lawful.
     #[tactic(auto, using(crate::proofs::Edits::stands_lawful))]
@@ -88,7 +76,12 @@ impl EditRecord {
         ensures lawful { Decides result (Lawful edits self.now) }
     {
         let EditRecord { tag, first, second } = *self;
-        is_edit(tag, first, second)
+        match tag {
+            0 => is_second(first) && is_second(second) && is_below(first, second),
+            1 => is_second(first) && is_gain(second),
+            2 | 3 => first == 0 && second == 0,
+            _ => false,
+        }
     }
 
     // The edit that the record stands for, if it stands.
@@ -214,7 +207,8 @@ impl Content<{ Edit::LEN }> for Edit {
         out
     }
 
-    // by fields, since a proof over `==` of whole records is not told that their numbers fit their types
+    // by fields: of whole records a proof over `==` is not told that their numbers fit their types, and comparing
+    // their bytes would lay both out each time
     fn same(a: &EditRecord, b: &EditRecord) -> bool {
         a.tag == b.tag && a.first == b.first && a.second == b.second
     }

@@ -51,10 +51,8 @@ pub fn write_content<const L: usize, C: Content<L>>(
     ensures answer { result ≡ write_answer L (Ok (C.Content.kind.shown rec.now)) out.old }
     ensures memory { out.new ≡ write_memory L (Ok (C.Content.kind.shown rec.now)) out.old }
 {
-    if out.len() < L {
-        return Err(Refusal::SmallOutbox);
-    }
-    out[0..L].copy_from_slice(&C::bytes(rec));
+    let front = out.first_chunk_mut::<L>().ok_or(Refusal::SmallOutbox)?;
+    *front = C::bytes(rec);
     Ok(L)
 }
 

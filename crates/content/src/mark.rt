@@ -48,14 +48,6 @@ fn is_title(title: &[u8]) -> bool
     0 < n && all_zero(&title[n..])
 }
 
-// Whether a start and a title are a chapter mark, and so a lawful record.
-fn is_mark(start: u32, title: &[u8]) -> bool
-    ensures answer { result ≡ is_mark start title.now }
-    ensures lawful { length title.now ≡ 24 → Decides result (Lawful marks (record { start = start; title = title.now })) }
-{
-    start <= LAST_SECOND && is_title(title)
-}
-
 // Whether bytes are the text of a title: 1 to 24 of them, all text.
 fn is_heading(text: &[u8]) -> bool
     ensures { result ≡ is_heading text.now }
@@ -105,6 +97,15 @@ impl ChapterMark {
         }
     }
 
+    // Whether the record is a chapter mark, and so lawful.
+    fn stands(&self) -> bool
+        ensures answer { result ≡ is_mark self.now.start self.now.title }
+        ensures lawful { Decides result (Lawful marks self.now) }
+    {
+        let ChapterMark { start, title } = *self;
+        start <= LAST_SECOND && is_title(&title)
+    }
+
     // The second at which the chapter begins.
     pub fn start(&self) -> u32
         ensures { result ≡ self.now.start }
@@ -130,7 +131,8 @@ impl Content<{ ChapterMark::LEN }> for ChapterMark {
         let (start, title) = src.split_first_chunk::<4>()?;
         let start = u32::from_le_bytes(*start);
         let title = *title.as_array()?;
-        is_mark(start, &title).then_some(ChapterMark { start, title })
+        let mark = ChapterMark { start, title };
+        mark.stands().then_some(mark)
     }
 
     fn bytes(rec: &ChapterMark) -> [u8; 28] {
@@ -145,11 +147,11 @@ impl Content<{ ChapterMark::LEN }> for ChapterMark {
     }
 
     fn lawful(rec: &ChapterMark) -> bool {
-        is_mark(rec.start, &rec.title)
+        rec.stands()
     }
 }
 
-// Two marks are equal if their bytes are: not derived, since that promises equal fields and says nothing of bytes.
+// Two marks are equal if their bytes are: by hand, since a derived == promises equal fields and nothing of bytes.
 impl PartialEq for ChapterMark {
     ghost eq = { λ a b. bytes_eq (mark_shown a) (mark_shown b) };
 

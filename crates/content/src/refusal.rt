@@ -131,7 +131,7 @@ impl Refusal {
         }
     }
 
-    // Whether a refusal has the number and the detail of another, and so is the same.
+    // The same as ==, with what it promises: equal are refusals of one number and one detail, and no others.
     pub fn same(&self, other: &Refusal) -> bool
         ensures answer { result ≡ nat_eq (number_of self.now) (number_of other.now) && nat_eq (detail_of self.now) (detail_of other.now) }
         ensures one { Decides result (self.now ≡ other.now) }

@@ -5,10 +5,10 @@ use content::refusal::Refusal;
 use std::process::Abort;
 use std::test::Fail;
 
-// The bytes of a start, and a title of one text byte, so many of it, and then a tail.
-fn bytes(start: u32, text: u8, count: usize, tail: u8) -> [u8; 28] {
+// The 28 bytes of a mark: a start, then one text byte up to an offset, and then a tail.
+fn bytes(start: u32, text: u8, end: usize, tail: u8) -> [u8; 28] {
     let mut out = [tail; 28];
-    for byte in out.iter_mut().take(count) {
+    for byte in out.iter_mut().take(end) {
         *byte = text;
     }
     out[..4].copy_from_slice(&start.to_le_bytes());

@@ -6,10 +6,11 @@ use Rattle.std.specs.Str.{bytes_eq}
 use Rattle.seals.specs.Checks.{and_left}
 use Rattle.seals.specs.declared.roll.RollLine.{RollLine}
 
--- a line is this seat's, on this statement, with this seal; and one of the lines is
+-- a line is this seat's, on this statement, with this seal
 abbrev pub is_line : RollLine → ℕ → List ℕ → List ℕ → Bool
 is_line line seat statement seal = line.seat == seat && (bytes_eq line.statement.now statement && bytes_eq line.seal seal)
 
+-- one of the lines is
 abbrev pub listed : List RollLine → ℕ → List ℕ → List ℕ → Bool
 listed lines seat statement seal = list_any (λ line. is_line line seat statement seal) lines
 

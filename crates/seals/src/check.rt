@@ -15,7 +15,7 @@ pub trait SealCheck<const S: usize> {
 
     // Whether this seal is the seat's on the statement that is the tag byte and then the body. Asking
     // alters no later answer.
-    // The four stand one by one, and a tag is any byte: whoever makes a check of their own writes this signature.
+    // Four parameters and no struct, and the tag any byte: checks that others write have this signature.
     fn check(&mut self, seat: u8, tag: u8, body: &[u8], seal: &[u8]) -> bool
         ensures answer { result ≡ accepts self.old seat (tag ∷ body.now) seal.now }
         ensures kept { accepts self.new ≡ accepts self.old };

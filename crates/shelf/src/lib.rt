@@ -42,6 +42,7 @@ impl<'a, R: Copy> Shelf<'a, R> {
     pub fn blocks(&self) -> &[Block<R>]
         ensures { result.now ≡ held self.now }
     {
+        // the count never passes the cells; an invariant that says so would keep a shelf from lending them
         self.cells.get(..self.len).unwrap_or(self.cells)
     }
 

@@ -43,7 +43,7 @@ fn ancestor_of<'b, R: Copy>(
     ensures { behind result ≡ climb steps blocks.now block.now }
 {
     let mut at = block;
-    // a loop, since each step can refuse
+    // a loop with ?, which try_fold would say no more plainly
     for _ in 0..steps {
         at = parent_of(blocks, at)?;
     }
