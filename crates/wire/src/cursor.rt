@@ -1,7 +1,7 @@
 // The fields of a message, each taken off the front of the bytes that are left.
-ghost use Rattle.std.specs.Prelude.{◌≡◌, ℕ, ◌+◌, ◌^◌, ◌<◌, ◌≤◌, length, OnOk};
+ghost use Rattle.std.specs.Prelude.{◌≡◌, ◌+◌, ◌^◌, ◌<◌, length, OnOk};
 ghost use Rattle.wire.specs.Meaning.{bytes_of, taken, taken_by};
-ghost use Rattle.wire.specs.Reading.{peel, peel_number, peel_seat, peel_mask, peel_seals, seals_fit, ended};
+ghost use Rattle.wire.specs.Reading.{peel, peel_number, peel_seat, peel_mask, peel_seals, ended};
 
 use blocks::masks::lawful_mask;
 use blocks::seats::SeatCount;
