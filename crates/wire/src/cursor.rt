@@ -51,6 +51,7 @@ impl<'a> Cursor<'a> {
         Ok(*self.take(N)?.as_array().unwrap())
     }
 
+    // Numbers of one, two and four bytes: a line for each, since it is each type's own `from_le_bytes` that makes them.
     pub(crate) fn u8(&mut self) -> Result<u8, Refusal>
         ensures value { taken result self.new.rest.now ≡ peel_number 1 self.old.at self.old.rest.now }
         ensures at { OnOk result (self.new.at ≡ self.old.at + 1) }
