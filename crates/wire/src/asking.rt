@@ -1,5 +1,5 @@
 // Opening a message: reading it, and asking the seal check about each of its seals.
-ghost use Rattle.std.specs.Prelude.{◌≡◌, ℕ, ◌+◌, ◌*◌, ◌≤◌, [], ◌∷◌, length, take, drop, IfOk};
+ghost use Rattle.std.specs.Prelude.{◌≡◌, ◌+◌, ◌*◌, ◌≤◌, [], ◌∷◌, length, take, drop, IfOk};
 ghost use Rattle.wire.specs.Asked.{judge, asked, row_asked, asked_one, opened};
 ghost use Rattle.wire.specs.Lawful.{LawfulParts};
 ghost use Rattle.wire.specs.Layout.{message_bytes};

@@ -1,7 +1,7 @@
 // The fields of a message, each taken off the front of the bytes that are left.
-ghost use Rattle.std.specs.Prelude.{◌≡◌, ℕ, ◌+◌, ◌^◌, ◌<◌, ◌≤◌, length, OnOk};
+ghost use Rattle.std.specs.Prelude.{◌≡◌, ◌+◌, ◌^◌, ◌<◌, length, OnOk};
 ghost use Rattle.wire.specs.Meaning.{bytes_of, taken, taken_by};
-ghost use Rattle.wire.specs.Reading.{peel, peel_number, peel_seat, peel_mask, peel_seals, seals_fit, ended};
+ghost use Rattle.wire.specs.Reading.{peel, peel_number, peel_seat, peel_mask, peel_seals, ended};
 
 use blocks::masks::lawful_mask;
 use blocks::seats::SeatCount;
@@ -51,6 +51,7 @@ impl<'a> Cursor<'a> {
         Ok(*self.take(N)?.as_array().unwrap())
     }
 
+    // Numbers of one, two and four bytes: a line for each, since it is each type's own `from_le_bytes` that makes them.
     pub(crate) fn u8(&mut self) -> Result<u8, Refusal>
         ensures value { taken result self.new.rest.now ≡ peel_number 1 self.old.at self.old.rest.now }
         ensures at { OnOk result (self.new.at ≡ self.old.at + 1) }

@@ -1,18 +1,16 @@
 // Making a message of its parts: they are judged in the order in which they would lie, and refused as reading would.
-ghost use Rattle.std.specs.Prelude.{◌≡◌, ◌+◌, ◌*◌, ◌^◌, ◌<◌, Bool, length, IfOk, Some, Ok, Decides, OnOk, ◌==◌, nat_lt};
+ghost use Rattle.std.specs.Prelude.{◌≡◌, ◌+◌, ◌^◌, ◌<◌, Bool, IfOk, Ok, Decides, OnOk};
 ghost use Rattle.content.specs.Kinds.{Lawful};
-ghost use Rattle.content.specs.declared.refusal.Refusal.TheVariants.{BadLayout};
-ghost use Rattle.wire.specs.Lawful.{TwoBytes, FourBytes, LawfulBlock, LawfulRow, LawfulBody, LawfulParent, LawfulParts};
-ghost use Rattle.wire.specs.Layout.{lawful_numbers, message_bytes};
-ghost use Rattle.wire.specs.Making.{ok_if, judge_block, judge_row, judge_body, judge_parent, judge_parts, RankHeld, ParentFits, PartsFit, verdict};
+ghost use Rattle.wire.specs.Lawful.{TwoBytes, LawfulBlock, LawfulRow, LawfulBody, LawfulParent, LawfulParts};
+ghost use Rattle.wire.specs.Layout.{message_bytes};
+ghost use Rattle.wire.specs.Making.{ok_if, judge_block, judge_row, judge_body, judge_parent, judge_parts, ParentFits, PartsFit, verdict};
 ghost use Rattle.wire.specs.Meaning.{plain, plain_parent, plain_certificate};
-ghost use Rattle.wire.specs.declared.message.Parts.TheVariants.{Proposal, Vote};
-ghost use Rattle.wire.specs.Reading.{next, read_parts};
+ghost use Rattle.wire.specs.Reading.{read_parts};
 
 use crate::message::{Certificate, Message, Parts};
 use crate::numbers::lawful_numbers;
 use crate::reader::is_parent;
-use blocks::block::{Block, Rank};
+use blocks::block::Block;
 use blocks::masks::lawful_mask;
 use blocks::seats::SeatCount;
 use content::kind::Content;

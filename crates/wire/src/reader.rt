@@ -1,5 +1,5 @@
 // Reading a message: its first byte chooses the layout, then each field is taken off the front of what is left.
-ghost use Rattle.std.specs.Prelude.{◌≡◌, ℕ, ◌+◌, ◌^◌, ◌<◌, ◌≤◌, length, IfOk, OnOk};
+ghost use Rattle.std.specs.Prelude.{◌≡◌, ◌+◌, length, IfOk, OnOk};
 ghost use Rattle.wire.specs.Kinds.{read_as};
 ghost use Rattle.wire.specs.Lawful.{LawfulParts};
 ghost use Rattle.wire.specs.Layout.{message_bytes};
