@@ -5,8 +5,7 @@ ghost use Rattle.blocks.specs.Ranks.{same_rank, below, at_least, parent_of, same
 use crate::block::{Block, Rank};
 use content::kind::Content;
 
-// `same`, `below` and `at_least` say by name, as the definitions do, what ==, < and >= are: no step calls them, and each
-// may write the operator.
+// `same`, `below` and `at_least` are ==, < and >= under the names of the definitions, which their clauses tie to them.
 impl Rank {
     // Whether view and turn are the same.
     pub fn same(self, other: Rank) -> bool

@@ -15,18 +15,6 @@ Slice = Bor (List ℕ)
 abbrev pub bytes_of : Slice → List ℕ
 bytes_of s = s.now
 
--- what was read, and what is left
-abbrev pub behind_by : {X Y : Type 0} → (X → Y) → Result (X × Slice) Refusal → Read Y
-behind_by f (Ok p) = Ok (f p.0, p.1.now)
-behind_by f (Err e) = Err e
-
-abbrev pub behind : {X : Type 0} → Result (X × Slice) Refusal → Read X
-behind r = behind_by (λ x. x) r
-
-abbrev pub left_of : Result Slice Refusal → Result (List ℕ) Refusal
-left_of (Ok s) = Ok s.now
-left_of (Err e) = Err e
-
 -- what was taken off the front, and what that leaves
 abbrev pub taken_by : {X Y : Type 0} → (X → Y) → Result X Refusal → List ℕ → Read Y
 taken_by f (Ok x) rest = Ok (f x, rest)
