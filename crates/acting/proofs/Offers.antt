@@ -1,5 +1,6 @@
 -- The offer's outcome, test by test, as its code makes it.
-use Rattle.std.proofs.Common.{◌≡◌, ℕ, ◌-◌, ◌*◌, ◌≤◌, Bool, true, false, cond, not, ◌||◌, eqb, ltb, List, [], length, take, Some, None, Ok, Err, Option, Result, sym, refl, ap, ◌∙◌, subst, mul-le-mul_left, arith, length-take}
+use Rattle.std.proofs.Common.{◌≡◌, ℕ, ◌+◌, ◌-◌, ◌*◌, ◌≤◌, Bool, true, false, cond, not, ◌||◌, eqb, ltb, List, [], length, replicate, take, Some, None, Ok, Err, Option, Result, sym, refl, ap, ◌∙◌, subst, mul-le-mul_left, arith, length-take}
+use lib.ListN.{length-replicate}
 use native.Mathlib.Nat.{sub-zero}
 use Rattle.std.proofs.lemmas.Bool.Decides.{nat_tests}
 use Rattle.content.specs.Kinds.{Kind, read_content}
@@ -71,6 +72,10 @@ row_is n S q seals e = ap (λ m. take m seals) (sub-zero (q * S) ∙ ap (λ x. x
 
 pub row-short : (k : ℕ) (seals : List ℕ) → k ≤ 512 → length (take (k - 0) seals) ≤ 512
 row-short k seals h = omega (arith, length-take (k - 0) seals)
+
+-- a proposal fits into the outbox
+pub proposal-fits : (L S room parent : ℕ) → L ≤ 64 → S ≤ 64 → 1024 ≤ room → parent ≤ 526 + L → 0 + (13 + L + length (replicate {A = ℕ} S 0) + parent) ≤ room
+proposal-fits L S room parent l s r p = omega (arith, length-replicate {A = ℕ} S 0)
 
 -- what a step shows of its result: its answer, its state, its outbox
 pub record Steps {L S : ℕ} {R : Type 0} (k : Kind L R) (s : State S R) (out : List ℕ) (r : Result (Outcome S R) Refusal) (answer : Result Answer Refusal) (s' : State S R) (out' : List ℕ) : Type 0 where

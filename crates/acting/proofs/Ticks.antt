@@ -1,5 +1,5 @@
 -- The tick's outcomes, piece by piece, as its code makes them.
-use Rattle.std.proofs.Common.{◌≡◌, ℕ, ◌+◌, ◌-◌, ◌*◌, ◌≤◌, min, Bool, true, false, cond, leb, List, [], length, is_some, Some, None, Option, sym, refl, ap, ◌∙◌, subst, arith}
+use Rattle.std.proofs.Common.{◌≡◌, ℕ, ◌+◌, ◌-◌, ◌*◌, ◌≤◌, min, Bool, true, false, cond, leb, List, [], length, is_some, Some, None, Ok, Option, Result, sym, refl, ap, ◌∙◌, subst, arith}
 use lib.ListN.{length-replicate}
 use Rattle.content.specs.Kinds.{Kind}
 use Rattle.blocks.specs.declared.block.Block.{Block}
@@ -18,6 +18,9 @@ use Rattle.state.specs.declared.state.Phase.TheVariants.{On, Leaving}
 use Rattle.state.specs.declared.state.Phase.{Phase}
 use Rattle.state.specs.declared.state.State.{State}
 use Rattle.state.specs.declared.state.Terms.{Terms}
+
+pub ok_same : {X E : Type 0} {x y : X} → ◌≡◌ {A = Result X E} (Ok x) (Ok y) → x ≡ y
+ok_same e = cc
 
 -- what a call shows of an outcome: its answer, its state, its outbox
 pub record Shows {L S : ℕ} {R : Type 0} (k : Kind L R) (o : Outcome S R) (answer : Answer) (state : State S R) (out out' : List ℕ) : Type 0 where
@@ -161,15 +164,6 @@ module _ {L S : ℕ} {R : Type 0} (k : Kind L R) (p : Terms) where
       subst (λ (o : Outcome S R). Shows k o answer s1 out out') (sym (tick-on p phase s bs e))
       (record { answer_is = h.answer_is; state_is = h.state_is; outbox_is = h.outbox_is })
 
--- an outbox has room for a vote and a blame
-pub room-on : (L S room : ℕ) → L ≤ 64 → S ≤ 64 → 1024 ≤ room → 18 + L + (S + S) ≤ room
-room-on L S room hl hs hr = omega arith
-
-pub room-leaving : (S room : ℕ) → S ≤ 64 → 1024 ≤ room → 4 + S ≤ room
-room-leaving S room hs hr = omega arith
-
-pub room-blame : (S room : ℕ) → 4 + S ≤ room → 0 + (4 + S) ≤ room
-room-blame S room h = omega arith
-
-pub room-vote : (L S room : ℕ) → 18 + L + (S + S) ≤ room → 14 + L + S ≤ room
-room-vote L S room h = omega arith
+-- an outbox has room for a blame
+pub room-blame : (S room : ℕ) → S ≤ 64 → 1024 ≤ room → 0 + (4 + S) ≤ room
+room-blame S room hs hr = omega arith

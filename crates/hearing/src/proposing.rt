@@ -1,27 +1,26 @@
 // A proposal, after its parent's certificate was taken in.
-ghost use Rattle.std.specs.Prelude.{◌≡◌, ◌+◌, ◌≤◌, length, IfOk, if◌then◌else◌, Some};
-ghost use Rattle.wire.specs.Meaning.{plain_certificate, plain_parent};
-ghost use Rattle.wire.specs.Writing.{body_size, parent_size};
-ghost use Rattle.wire.specs.declared.message.Parts.TheVariants.{Certified};
-ghost use Rattle.state.specs.Sends.{end_of, put_item, write};
+ghost use Rattle.std.specs.Prelude.{◌≡◌, ◌+◌, ◌≤◌, length, if◌then◌else◌, Some};
+ghost use Rattle.wire.specs.Meaning.{plain_parent};
+ghost use Rattle.wire.specs.Writing.{parent_size};
 ghost use Rattle.shelf.specs.Blocks.{held, size};
-ghost use Rattle.shelf.specs.Cells.{SameCells};
-ghost use Rattle.state.specs.Does.{Does};
-ghost use Rattle.state.specs.HandIn.{proposal, take_in};
-ghost use Rattle.state.specs.Reactions.{accepting, blames_by, fresh, meets, note_or, parent_taken, reacted, reaction, responded};
+ghost use Rattle.state.specs.HandIn.{proposal};
+ghost use Rattle.state.specs.Reactions.{accepting, blames_by, fresh, meets, note_or, reacted, reaction, responded};
+ghost use Rattle.state.specs.Sends.{end_of, put_item};
+ghost use Rattle.state.specs.Steps.{Leaves, Steps};
 ghost use Rattle.state.specs.declared.notes.Reaction.TheVariants.{Accepted, Noted};
 
+use crate::certified::take_parent;
 use blocks::block::Block;
 use blocks::ranks::same_block;
 use content::kind::Content;
 use content::refusal::Refusal;
 use shelf::Shelf;
 use state::answer::{Answer, Item, Word};
+use state::call::Call;
 use state::notes::Reaction;
-use state::sending::{end_of, put, put_blame};
-use state::state::{Note, State, Terms};
-use state::taking::{Verdict, judge_in, take};
-use wire::message::{Certificate, Parts};
+use state::sending::end_of;
+use state::state::{Note, State};
+use wire::message::Certificate;
 
 // The slot has no note: the proposal becomes it.
 fn first<const S: usize, R: Copy>(state: &mut State<S, R>, block: &Block<R>) -> Reaction
@@ -79,15 +78,14 @@ fn react<const L: usize, const S: usize, C: Content<L>>(
 
 // The answer to a proposal, from the one to its parent's certificate; a blame is written behind that certificate.
 fn respond<const L: usize, const S: usize, C: Content<L>>(
-    terms: &Terms,
+    call: &mut Call<'_, S>,
     view: u16,
     answer: Answer,
     reaction: Reaction,
-    outbox: &mut [u8],
 ) -> Answer
-    requires { end_of answer.certificate + (4 + S) ≤ length outbox.old }
-    ensures answer { result ≡ responded C.Content.kind answer (blames_by S terms.now view reaction) reaction }
-    ensures outbox { outbox.new ≡ put_item C.Content.kind (end_of answer.certificate) (blames_by S terms.now view reaction) outbox.old }
+    requires { end_of answer.certificate + (4 + S) ≤ length call.old.outbox.now }
+    ensures answer { result ≡ responded C.Content.kind answer (blames_by S call.old.terms.now view reaction) reaction }
+    ensures call { Leaves call.new call.old (put_item C.Content.kind (end_of answer.certificate) (blames_by S call.old.terms.now view reaction) call.old.outbox.now) }
 {
     match reaction {
         Reaction::Nothing => answer,
@@ -107,7 +105,7 @@ fn respond<const L: usize, const S: usize, C: Content<L>>(
         },
         Reaction::ClashAndBlame => {
             let from = end_of(&answer.certificate);
-            let blame = Some(put_blame::<L, S, C>(terms, view, outbox, from));
+            let blame = Some(call.put_blame::<L, C>(view, from));
             Answer {
                 word: Word::Clash,
                 message: Some(Item::Inbox),
@@ -118,74 +116,19 @@ fn respond<const L: usize, const S: usize, C: Content<L>>(
     }
 }
 
-// The parent's certificate: a new one is written into the outbox, to be sent by itself.
-fn take_written<const L: usize, const S: usize, C: Content<L>>(
-    state: &mut State<S, C::Record>,
-    shelf: &mut Shelf<'_, C::Record>,
-    c: &Certificate<C::Record, &[u8]>,
-    outbox: &mut [u8],
-) -> Result<Answer, Refusal>
-    requires { 1 + body_size L (plain_certificate c.now) ≤ length outbox.old }
-    ensures does { Does C.Content.kind (take_in C.Content.kind state.old (held shelf.old) (size shelf.old) (plain_certificate c.now) (write (Certified (plain_certificate c.now)))) state.old (held shelf.old) outbox.old result state.new (held shelf.new) outbox.new }
-    ensures end { IfOk result (λ a. end_of a.certificate ≤ 1 + body_size L (plain_certificate c.now)) }
-    ensures size { size shelf.new ≡ size shelf.old }
-    ensures place { SameCells shelf.new shelf.old }
-{
-    match judge_in::<L, S, C>(state, shelf, &c.block)? {
-        Verdict::Known => Ok(Answer::of(Word::Idle)),
-        Verdict::New => {
-            let parts = Parts::Certified(Certificate {
-                block: c.block,
-                mask: c.mask,
-                seals: c.seals,
-            });
-            let item = put::<L, C>(&parts, outbox, 0);
-            Ok(Answer {
-                word: Word::Certified,
-                height: take(state, shelf, c),
-                certificate: Some(item),
-                message: None,
-                blame: None,
-            })
-        }
-    }
-}
-
-// The parent's certificate, if the proposal carries one.
-fn take_parent<const L: usize, const S: usize, C: Content<L>>(
-    state: &mut State<S, C::Record>,
-    shelf: &mut Shelf<'_, C::Record>,
-    parent: &Option<Certificate<C::Record, &[u8]>>,
-    outbox: &mut [u8],
-) -> Result<Answer, Refusal>
-    requires { 1 + parent_size L (plain_parent parent.now) ≤ length outbox.old }
-    ensures does { Does C.Content.kind (parent_taken C.Content.kind state.old (held shelf.old) (size shelf.old) (plain_parent parent.now)) state.old (held shelf.old) outbox.old result state.new (held shelf.new) outbox.new }
-    ensures end { IfOk result (λ a. end_of a.certificate ≤ 1 + parent_size L (plain_parent parent.now)) }
-    ensures size { size shelf.new ≡ size shelf.old }
-    ensures place { SameCells shelf.new shelf.old }
-{
-    match parent {
-        None => Ok(Answer::of(Word::Idle)),
-        Some(c) => take_written::<L, S, C>(state, shelf, c, outbox),
-    }
-}
-
 // A proposal: its parent's certificate is taken in, and then the seat reacts to the block.
 pub fn proposal<const L: usize, const S: usize, C: Content<L>>(
-    terms: &Terms,
+    call: &mut Call<'_, S>,
     state: &mut State<S, C::Record>,
     shelf: &mut Shelf<'_, C::Record>,
     block: &Block<C::Record>,
     parent: &Option<Certificate<C::Record, &[u8]>>,
-    outbox: &mut [u8],
 ) -> Result<Answer, Refusal>
-    requires { 1 + parent_size L (plain_parent parent.now) + (4 + S) ≤ length outbox.old }
-    ensures does { Does C.Content.kind (proposal C.Content.kind terms.now state.old (held shelf.old) (size shelf.old) block.now (plain_parent parent.now)) state.old (held shelf.old) outbox.old result state.new (held shelf.new) outbox.new }
-    ensures size { size shelf.new ≡ size shelf.old }
-    ensures place { SameCells shelf.new shelf.old }
+    requires { 1 + parent_size L (plain_parent parent.now) + (4 + S) ≤ length call.old.outbox.now }
+    ensures { Steps C.Content.kind (proposal C.Content.kind call.old.terms.now state.old (held shelf.old) (size shelf.old) block.now (plain_parent parent.now)) call.old state.old shelf.old result call.new state.new shelf.new }
 {
-    let answer = take_parent::<L, S, C>(state, shelf, parent, outbox)?;
+    let answer = take_parent::<L, S, C>(call, state, shelf, parent)?;
     let view = state.view;
     let reaction = react::<L, S, C>(state, block);
-    Ok(respond::<L, S, C>(terms, view, answer, reaction, outbox))
+    Ok(respond::<L, S, C>(call, view, answer, reaction))
 }

@@ -14,7 +14,7 @@ use Rattle.state.specs.Does.{Does}
 use Rattle.state.specs.HandIn.{hand_parts, idle, last_view}
 use Rattle.state.specs.Offer.{can_carry, may_offer, no_place, offer_step, offers, too_soon}
 use Rattle.state.specs.Parts.{is_on, with_note, with_now, with_slip}
-use Rattle.state.specs.Sends.{Outcome, answer_of, outbox_after}
+use Rattle.state.specs.Sends.{Outcome, outbox_after}
 use Rattle.state.specs.Tick.{blame_due, enter, entered, on_tick, ticked, tick_step, turn_after, voted_for, vote_due}
 use Rattle.state.specs.declared.answer.Answer.{Answer}
 use Rattle.state.specs.declared.state.Note.{Note}
@@ -37,12 +37,12 @@ module _ {L S : ℕ} {R : Type 0} (k : Kind L R) (s : State S R) (bs : List (Blo
   }
 
   -- one that is carried out gives a slip
-  pub carried : (o : Outcome S R) (a : Answer) (slip : Slip) (s' : State S R) (bs' : List (Block R)) (out' : List ℕ) → r ≡ Ok o →
-      a ≡ answer_of k o → s' ≡ o.state → bs' ≡ o.blocks → out' ≡ outbox_after k o.sends out →
-      Called k r s bs out (Ok (a, slip)) (with_slip true s') bs' out'
-  carried o a slip s' bs' out' m ea es eb eo = record {
-    answer = ap (λ x. Ok x) ea ∙ sym (ap (λ x. answer_after k x) m);
-    state = ap (with_slip true) es ∙ sym (ap (λ x. state_after s x) m);
+  pub carried : (o : Outcome S R) (a : Answer) (p : Answer × Slip) (s' t : State S R) (bs' : List (Block R)) (out' : List ℕ) → r ≡ Ok o →
+      p.0 ≡ a → t ≡ with_slip true s' → Ok a ≡ answer_after k (Ok o) → s' ≡ o.state → bs' ≡ o.blocks → out' ≡ outbox_after k o.sends out →
+      Called k r s bs out (Ok p) t bs' out'
+  carried o a p s' t bs' out' m ep et ea es eb eo = record {
+    answer = ap (λ x. Ok x) ep ∙ (ea ∙ sym (ap (λ x. answer_after k x) m));
+    state = et ∙ (ap (with_slip true) es ∙ sym (ap (λ x. state_after s x) m));
     blocks = eb ∙ sym (ap (λ x. blocks_after bs x) m);
     outbox = eo ∙ sym (ap (λ x. box_after k out x) m);
   }
@@ -59,15 +59,15 @@ module _ {L S : ℕ} {R : Type 0} (k : Kind L R) (s : State S R) (bs : List (Blo
     outbox = d.outbox;
   }
 
-  step-carried : (q : Result (Outcome S R) Refusal) (a : Answer) (slip : Slip) (s' : State S R) (bs' : List (Block R)) (out' : List ℕ) →
-      Does k q s bs out (Ok a) s' bs' out' → Called k q s bs out (Ok (a, slip)) (with_slip true s') bs' out'
-  step-carried (Ok o) a slip s' bs' out' d = record {
-    answer = d.answer;
-    state = ap (with_slip true) d.state;
+  step-carried : (q : Result (Outcome S R) Refusal) (a : Answer) (p : Answer × Slip) (s' t : State S R) (bs' : List (Block R)) (out' : List ℕ) →
+      Does k q s bs out (Ok a) s' bs' out' → p.0 ≡ a → t ≡ with_slip true s' → Called k q s bs out (Ok p) t bs' out'
+  step-carried (Ok o) a p s' t bs' out' d ep et = record {
+    answer = ap (λ x. Ok x) ep ∙ d.answer;
+    state = et ∙ ap (with_slip true) d.state;
     blocks = d.blocks;
     outbox = d.outbox;
   }
-  step-carried (Err x) a slip s' bs' out' d = absurd (let h = d.answer in let z : ◌≡◌ {A = ℕ} 0 1 = cc in omega arith)
+  step-carried (Err x) a p s' t bs' out' d ep et = absurd (let h = d.answer in let z : ◌≡◌ {A = ℕ} 0 1 = cc in omega arith)
 
   called_at : (q r : Result (Outcome S R) Refusal) (result : Result (Answer × Slip) Refusal) (s' : State S R) (bs' : List (Block R)) (out' : List ℕ) → r ≡ q →
       Called k q s bs out result s' bs' out' → Called k r s bs out result s' bs' out'
@@ -82,9 +82,9 @@ module _ {L S : ℕ} {R : Type 0} (k : Kind L R) (s : State S R) (bs : List (Blo
       Does k q s bs out (Err e) s' bs' out' → result ≡ Err f → f ≡ e → Called k r s bs out result s' bs' out'
   refused-by q r e f result s' bs' out' h d a b = called_at q r result s' bs' out' h (step-refused q e f result s' bs' out' d a b)
 
-  pub carried-by : (q r : Result (Outcome S R) Refusal) (a : Answer) (slip : Slip) (s' : State S R) (bs' : List (Block R)) (out' : List ℕ) → r ≡ q →
-      Does k q s bs out (Ok a) s' bs' out' → Called k r s bs out (Ok (a, slip)) (with_slip true s') bs' out'
-  carried-by q r a slip s' bs' out' h d = called_at q r (Ok (a, slip)) (with_slip true s') bs' out' h (step-carried q a slip s' bs' out' d)
+  pub carried-by : (q r : Result (Outcome S R) Refusal) (a : Answer) (p : Answer × Slip) (s' t : State S R) (bs' : List (Block R)) (out' : List ℕ) → r ≡ q →
+      Does k q s bs out (Ok a) s' bs' out' → p.0 ≡ a → t ≡ with_slip true s' → Called k r s bs out (Ok p) t bs' out'
+  carried-by q r a p s' t bs' out' h d ep et = called_at q r (Ok p) t bs' out' h (step-carried q a p s' t bs' out' d ep et)
 
 -- a message that is not opened is refused as it says; one that is goes to the seat's step
 module _ {L S : ℕ} {R : Type 0} (k : Kind L R) (p : Terms) (leader : ℕ → ℕ) (accepts : ℕ → List ℕ → List ℕ → Bool)

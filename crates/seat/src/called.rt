@@ -1,10 +1,11 @@
 // The calls.
-ghost use Rattle.std.specs.Prelude.{◌≡◌, List, length};
+ghost use Rattle.std.specs.Prelude.{◌≡◌, true, List, length};
 ghost use Rattle.rota.specs.Limits.{MadeWithin};
 ghost use Rattle.blocks.specs.declared.block.Block.{Block as BlockOf};
 ghost use Rattle.shelf.specs.Blocks.{held, size};
 ghost use Rattle.shelf.specs.Cells.{SameCells};
 ghost use Rattle.state.specs.Calls.{hand_in, offer, sent_step, tick};
+ghost use Rattle.state.specs.Parts.{with_slip};
 ghost use Rattle.seat.specs.Called.{Called, ready};
 ghost use Rattle.seat.specs.Made.{Fresh, terms_lawful};
 
@@ -21,6 +22,7 @@ use rota::leaders::{Rota, seats_in_limits};
 use seals::check::SealCheck;
 use shelf::Shelf;
 use state::answer::Answer;
+use state::call::Call;
 use state::state::{Phase, Round, State, Terms};
 use wire::asking::open;
 
@@ -40,9 +42,9 @@ fn terms_in_limits(n: u8, own: u8, delta: u16, patience: u16) -> bool
     ensures { result ≡ terms_lawful n own delta patience }
 {
     seats_in_limits(n)
-        & ((own < n)
-            & (((1 <= delta) & (delta <= MOST_DELTA))
-                & ((1 <= patience) & (patience <= MOST_PATIENCE))))
+        && (own < n)
+        && (1..=MOST_DELTA).contains(&delta)
+        && (1..=MOST_PATIENCE).contains(&patience)
 }
 
 impl<const L: usize, const S: usize, C: Content<L>> Seat<L, S, C> {
@@ -58,9 +60,7 @@ impl<const L: usize, const S: usize, C: Content<L>> Seat<L, S, C> {
         if !terms_in_limits(n, own, delta, patience) {
             return Err(Refusal::OutOfLimits);
         }
-        let Ok(seats) = SeatCount::new(n) else {
-            return Err(Refusal::OutOfLimits);
-        };
+        let seats = SeatCount::new(n)?;
         Ok(Seat {
             terms: Terms {
                 seats,
@@ -68,6 +68,7 @@ impl<const L: usize, const S: usize, C: Content<L>> Seat<L, S, C> {
                 delta,
                 patience,
             },
+            // in full: State::new asks that the state's size be known, and nothing here tells it
             state: State {
                 now: 0,
                 phase: Phase::On,
@@ -122,6 +123,16 @@ impl<const L: usize, const S: usize, C: Content<L>> Seat<L, S, C> {
         Ok(())
     }
 
+    // What a call that was carried out answers: a slip is out.
+    fn dispatched(&mut self, answer: Answer) -> (Answer, Slip)
+        ensures answer { result.0 ≡ answer }
+        ensures state { self.new.state ≡ with_slip true self.old.state }
+        ensures terms { self.new.terms ≡ self.old.terms }
+    {
+        self.state.slip = true;
+        (answer, Slip::give())
+    }
+
     // Takes the slip back: what was answered is sent, and the seat may be called again.
     pub fn sent(&mut self, slip: Slip)
         ensures state { self.new.state ≡ sent_step self.old.state }
@@ -144,9 +155,12 @@ impl<const L: usize, const S: usize, C: Content<L>> Seat<L, S, C> {
         if self.state.now >= LAST_TICK {
             return Err(Refusal::LastTick);
         }
-        let answer = tick_step::<L, S, C>(&self.terms, &mut self.state, shelf, outbox);
-        self.state.slip = true;
-        Ok((answer, Slip::give()))
+        let mut call = Call {
+            terms: &self.terms,
+            outbox,
+        };
+        let answer = tick_step::<L, S, C>(&mut call, &mut self.state, shelf);
+        Ok(self.dispatched(answer))
     }
 
     // Hands a message in: it is read, its seals are checked, and the seat steps. Nothing is allocated, and no message is copied.
@@ -165,15 +179,12 @@ impl<const L: usize, const S: usize, C: Content<L>> Seat<L, S, C> {
     {
         self.ready(outbox.len())?;
         let message = open::<L, S, C, Q, K>(self.terms.seats, inbox, rota, check)?;
-        let answer = hand_parts::<L, S, C>(
-            &self.terms,
-            &mut self.state,
-            shelf,
-            message.parts(),
+        let mut call = Call {
+            terms: &self.terms,
             outbox,
-        )?;
-        self.state.slip = true;
-        Ok((answer, Slip::give()))
+        };
+        let answer = hand_parts::<L, S, C>(&mut call, &mut self.state, shelf, message.parts())?;
+        Ok(self.dispatched(answer))
     }
 
     // Offers an entry: where the seat may, it proposes it on the best block that it knows. The shelf is not asked.
@@ -187,8 +198,11 @@ impl<const L: usize, const S: usize, C: Content<L>> Seat<L, S, C> {
         ensures terms { self.new.terms ≡ self.old.terms }
     {
         self.ready(outbox.len())?;
-        let answer = offer_step::<L, S, C, Q>(&self.terms, &mut self.state, rota, content, outbox)?;
-        self.state.slip = true;
-        Ok((answer, Slip::give()))
+        let mut call = Call {
+            terms: &self.terms,
+            outbox,
+        };
+        let answer = offer_step::<L, S, C, Q>(&mut call, &mut self.state, rota, content)?;
+        Ok(self.dispatched(answer))
     }
 }

@@ -66,6 +66,14 @@ module _ {R : Type 0} (c : Certificate R (List ℕ)) where
   better-no (Some best) h = rw (sym h) refl
 
 module _ {S : ℕ} {R : Type 0} (c : Certificate R (List ℕ)) (s : State S R) where
+  -- the turn has risen where the seat is on in the block's view
+  pub rises_if : (h : Bool) (t u : State S R) → h ≡ true → u ≡ turn_rises (min (t.turn + 1) 4294967295) t →
+      u ≡ cond h (turn_rises (min (t.turn + 1) 4294967295) t) t
+  rises_if h t u e r = rw (e, r) refl
+
+  pub stays_if : (h : Bool) (t u : State S R) → h ≡ false → u ≡ t → u ≡ cond h (turn_rises (min (t.turn + 1) 4294967295) t) t
+  stays_if h t u e r = rw (e, r) refl
+
   pub shelve-is : (h f : Bool) (t u v : State S R) → h ≡ here s c.block → f ≡ commits s c.block →
       t ≡ with_best (better s.best c) s → u ≡ cond h (turn_rises (min (t.turn + 1) 4294967295) t) t →
       v ≡ cond f (with_committed c.block u) u → v ≡ shelve c s

@@ -1,2 +1,2 @@
 pub mod Certificates
-pub mod Entering
+pub mod Going

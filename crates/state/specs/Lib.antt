@@ -6,5 +6,6 @@ pub mod Offer
 pub mod Parts
 pub mod Reactions
 pub mod Sends
+pub mod Steps
 pub mod TakeIn
 pub mod Tick

@@ -30,6 +30,7 @@ pub enum Word {
 }
 
 // Where an item to send lies: the whole message that was handed in, or a part of the outbox.
+// Not an Option of the part, since the names say which of the two it is.
 #[derive(Clone, Copy, PartialEq, Eq, Debug)]
 pub enum Item {
     Inbox,

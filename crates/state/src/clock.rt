@@ -1,41 +1,27 @@
 // What the clock makes due, and entering a view.
-ghost use Rattle.std.specs.Prelude.{◌≡◌, ◌+◌, ◌-◌, ◌*◌, if◌then◌else◌, None, nat_eq, nat_le};
-ghost use Rattle.state.specs.Tick.{blame_due, enter, place_of, ripe, vote_due};
+ghost use Rattle.std.specs.Prelude.{◌≡◌, ◌+◌, ◌-◌, ◌*◌, nat_le};
+ghost use Rattle.state.specs.Tick.{blame_due, enter, ripe, vote_due};
 
-use crate::state::{Best, Note, Phase, State, Terms};
-use blocks::block::Rank;
-
-// Where best stands.
-fn place_of<R>(best: &Option<Best<R>>) -> Option<Rank>
-    ensures { result ≡ place_of best.now }
-{
-    match best {
-        None => None,
-        Some(best) => Some(best.block.rank),
-    }
-}
+use crate::state::{Note, Phase, State, Terms};
 
 // Whether a note accepted at a tick has waited D + 1 ticks or more.
 fn ripe(terms: &Terms, clock: u32, accepted: Option<u32>) -> bool
     ensures { result ≡ ripe terms.now clock accepted }
 {
-    match accepted {
-        None => false,
-        Some(at) => terms.delta as u32 + 1 <= clock.saturating_sub(at),
-    }
+    accepted.is_some_and(|at| terms.delta as u32 + 1 <= clock.saturating_sub(at))
 }
 
 impl<const S: usize, R: Copy> State<S, R> {
     pub fn vote_due(&self, terms: &Terms, note: &Note<R>) -> bool
         ensures { result ≡ vote_due terms.now self.entry.now note.now }
     {
-        ripe(terms, self.now, note.accepted) & (!note.voted & !self.spoiled)
+        ripe(terms, self.now, note.accepted) && (!note.voted && !self.spoiled)
     }
 
     pub fn blame_due(&self, terms: &Terms) -> bool
         ensures { result ≡ blame_due terms.now self.entry.now }
     {
-        !self.blamed & (terms.patience as u32 <= self.now.saturating_sub(self.progress))
+        !self.blamed && (terms.patience as u32 <= self.now.saturating_sub(self.progress))
     }
 
     // Whether 2D + 1 ticks of leaving are over.
@@ -52,16 +38,11 @@ impl<const S: usize, R: Copy> State<S, R> {
         self.phase = Phase::On;
         self.view = view;
         self.turn = turn;
-        self.lock = place_of(&self.best);
-        self.round.note = note_at(turn, self.round.note);
+        self.lock = self.best.as_ref().map(|best| best.block.rank);
         self.progress = self.now;
         self.entered = self.now;
+        if turn != 0 {
+            self.round.note = None;
+        }
     }
-}
-
-// Only at turn 0 the note of a seat that was leaving stays.
-fn note_at<R: Copy>(turn: u32, note: Option<Note<R>>) -> Option<Note<R>>
-    ensures { result ≡ (if nat_eq turn 0 then note else None) }
-{
-    if turn == 0 { note } else { None }
 }

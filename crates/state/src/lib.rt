@@ -3,9 +3,11 @@
 #![tactic(auto)]
 
 pub mod answer;
+pub mod call;
 pub mod clock;
 pub mod notes;
 pub mod places;
+pub mod seal;
 pub mod sending;
 pub mod state;
 pub mod taking;

@@ -1,5 +1,6 @@
 // The note: the first proposal that a seat saw at its place, and what a further one does to it.
 ghost use Rattle.std.specs.Prelude.{◌≡◌, not, ◌&&◌};
+ghost use Rattle.blocks.specs.Ranks.{at_least, parent_of};
 ghost use Rattle.state.specs.Parts.{is_on};
 ghost use Rattle.state.specs.HandIn.{acceptable, at_slot, slot_open};
 ghost use Rattle.state.specs.Reactions.{accepting, clashing, reacted};
@@ -7,7 +8,6 @@ ghost use Rattle.state.specs.declared.notes.Reaction.TheVariants.{Accepted};
 
 use crate::state::{Note, Phase, State};
 use blocks::block::Block;
-use blocks::ranks::at_least;
 
 // What a proposal does to a seat.
 #[derive(Clone, Copy, PartialEq, Eq)]
@@ -26,39 +26,46 @@ impl<const S: usize, R: Copy> State<S, R> {
     pub fn slot_open(&self, block: &Block<R>) -> bool
         ensures { result ≡ slot_open self.entry.now block.now }
     {
-        !self.spoiled & self.at_slot(block)
+        !self.spoiled && self.at_slot(block)
     }
 
     pub fn at_slot(&self, block: &Block<R>) -> bool
         ensures { result ≡ at_slot self.entry.now.phase self.entry.now block.now }
     {
         match self.phase {
-            Phase::On => { (self.view == block.rank.view) & (self.turn == block.rank.turn as u32) }
+            Phase::On => self.view == block.rank.view && self.turn == block.rank.turn as u32,
             Phase::Leaving { .. } => {
-                (self.view as u32 + 1 == block.rank.view as u32) & (block.rank.turn == 0)
+                (self.view as u32 + 1 == block.rank.view as u32) && block.rank.turn == 0
             }
         }
+    }
+
+    // Whether the block stands on the lock or above.
+    fn on_lock(&self, block: &Block<R>) -> bool
+        ensures { result ≡ at_least (parent_of block.now) self.entry.now.lock }
+    {
+        block.parent_place() >= self.lock
     }
 
     // Whether a proposal may be accepted: at turn 0 only on the lock or above.
     pub fn acceptable(&self, block: &Block<R>) -> bool
         ensures { result ≡ acceptable self.entry.now block.now }
     {
-        self.is_on() & ((0 < self.turn) | at_least(block.parent_place(), self.lock))
+        self.is_on() && ((0 < self.turn) || self.on_lock(block))
     }
 
     // Whether the note can be accepted now.
     pub fn accepting(&self, note: &Note<R>) -> bool
         ensures { result ≡ accepting self.entry.now note.now }
     {
-        self.acceptable(&note.block) & !note.accepted.is_some()
+        self.acceptable(&note.block) && note.accepted.is_none()
     }
 
     // Whether a clash is blamed too: once, and while the seat is on.
     pub fn blames_clash(&self) -> bool
         ensures { result ≡ (is_on self.entry.now.phase && not self.entry.now.blamed) }
     {
-        self.is_on() & !self.blamed
+        self.is_on() && !self.blamed
     }
 
     // A different proposal spoils the seat.

@@ -3,7 +3,7 @@ ghost use Rattle.std.specs.Prelude.{◌≡◌, ◌+◌, ◌≤◌, true, ◌&&�
 ghost use Rattle.state.specs.Parts.{with_offered};
 ghost use Rattle.state.specs.Offer.{can_carry, may_offer, next_height, no_place, offered_block, rank_of_best, too_soon};
 
-use crate::state::{Best, State, Terms};
+use crate::state::{State, Terms};
 use blocks::block::{Block, Rank};
 use content::refusal::Refusal;
 use rota::leaders::Rota;
@@ -13,25 +13,6 @@ const LAST_TURN: u32 = 65535;
 
 const LAST_HEIGHT: u64 = 4294967295;
 
-// The height above best.
-fn next_height<R>(best: &Option<Best<R>>) -> u64
-    ensures { result ≡ next_height best.now }
-{
-    match best {
-        None => 1,
-        Some(best) => best.block.height as u64 + 1,
-    }
-}
-
-fn rank_of_best<R>(best: &Option<Best<R>>) -> Rank
-    ensures { result ≡ rank_of_best best.now }
-{
-    match best {
-        None => Rank { view: 0, turn: 0 },
-        Some(best) => best.block.rank,
-    }
-}
-
 // Whether a rank can be the parent's at this view and turn: an earlier view's at turn 0, else the turn before.
 fn carries(parent: Rank, view: u16, turn: u32) -> bool
     ensures { result ≡ (if nat_eq turn 0 then nat_lt parent.view view else (parent.view == view) && parent.turn + 1 == turn) }
@@ -39,32 +20,55 @@ fn carries(parent: Rank, view: u16, turn: u32) -> bool
     if turn == 0 {
         parent.view < view
     } else {
-        (parent.view == view) & (parent.turn as u32 + 1 == turn)
-    }
-}
-
-// Whether best can be the parent: the root carries turn 0.
-fn can_carry<R>(view: u16, turn: u32, best: &Option<Best<R>>) -> bool
-    ensures { result ≡ can_carry view turn best.now }
-{
-    match best {
-        None => turn == 0,
-        Some(best) => carries(best.block.rank, view, turn),
+        parent.view == view && parent.turn as u32 + 1 == turn
     }
 }
 
 impl<const S: usize, R: Copy> State<S, R> {
+    // The height above best.
+    fn next_height(&self) -> u64
+        ensures { result ≡ next_height self.entry.now.best }
+    {
+        // a match, since no proof was found for map_or
+        match &self.best {
+            None => 1,
+            Some(best) => best.block.height as u64 + 1,
+        }
+    }
+
+    // The parent that a block on top of best names: best's rank, and zeros on the root.
+    fn rank_of_best(&self) -> Rank
+        ensures { result ≡ rank_of_best self.entry.now.best }
+    {
+        // a match, since no proof was found for map_or
+        match &self.best {
+            None => Rank { view: 0, turn: 0 },
+            Some(best) => best.block.rank,
+        }
+    }
+
+    // Whether best can be the parent: the root carries turn 0.
+    fn can_carry(&self) -> bool
+        ensures { result ≡ can_carry self.entry.now.view self.entry.now.turn self.entry.now.best }
+    {
+        // a match, since no proof was found for map_or
+        match &self.best {
+            None => self.turn == 0,
+            Some(best) => carries(best.block.rank, self.view, self.turn),
+        }
+    }
+
     pub fn no_place(&self) -> bool
         ensures { result ≡ no_place self.entry.now }
     {
-        (self.turn > LAST_TURN) | (next_height(&self.best) > LAST_HEIGHT)
+        self.turn > LAST_TURN || self.next_height() > LAST_HEIGHT
     }
 
     // Soon after entering a view above 0 nothing is offered.
     pub fn too_soon(&self, terms: &Terms) -> bool
         ensures { result ≡ too_soon terms.now self.entry.now }
     {
-        (0 < self.view) & (self.now.saturating_sub(self.entered) < 2 * terms.delta as u32 + 1)
+        0 < self.view && (self.now.saturating_sub(self.entered) < 2 * terms.delta as u32 + 1)
     }
 
     // Whether this seat leads its view.
@@ -96,7 +100,7 @@ impl<const S: usize, R: Copy> State<S, R> {
         if self.too_soon(terms) {
             return Err(Refusal::OfferTooSoon);
         }
-        if !can_carry(self.view, self.turn, &self.best) {
+        if !self.can_carry() {
             return Err(Refusal::NoLawfulParent);
         }
         Ok(())
@@ -104,8 +108,8 @@ impl<const S: usize, R: Copy> State<S, R> {
 
     // The block on top of best: one is offered a turn.
     pub fn offered_block(&mut self, content: R) -> Block<R>
-        requires turn { self.now.turn ≤ 65535 }
-        requires height { next_height self.now.best ≤ 4294967295 }
+        requires turn { self.old.turn ≤ 65535 }
+        requires height { next_height self.old.best ≤ 4294967295 }
         ensures block { result ≡ offered_block self.entry.now content }
         ensures state { self.exit.now ≡ with_offered true self.entry.now }
     {
@@ -115,8 +119,8 @@ impl<const S: usize, R: Copy> State<S, R> {
                 view: self.view,
                 turn: self.turn as u16,
             },
-            height: next_height(&self.best) as u32,
-            parent: rank_of_best(&self.best),
+            height: self.next_height() as u32,
+            parent: self.rank_of_best(),
             content,
         }
     }

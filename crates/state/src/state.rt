@@ -18,6 +18,7 @@ pub struct Terms {
 }
 
 // A seat is on in its view, or leaving it since a tick.
+// Not an Option of the tick, since the names say which of the two it is.
 #[derive(Clone, Copy)]
 pub enum Phase {
     On,
@@ -74,6 +75,19 @@ pub struct State<const S: usize, R> {
     pub slip: bool,
 }
 
+impl<const S: usize, R> Round<S, R> {
+    // A turn begins with no note, no votes, nothing offered.
+    pub fn new() -> Round<S, R>
+        ensures { result ≡ new_round }
+    {
+        Round {
+            note: None,
+            votes: SealRow::empty(),
+            offered: false,
+        }
+    }
+}
+
 // The last view cannot be blamed.
 pub const LAST_VIEW: u16 = 65_535;
 
@@ -89,18 +103,10 @@ impl<const S: usize, R: Copy> State<S, R> {
             turn: 0,
             lock: None,
             best: None,
-            round: Round {
-                note: None,
-                votes: SealRow {
-                    by_seat: [None; 15],
-                },
-                offered: false,
-            },
+            round: Round::new(),
             spoiled: false,
             blamed: false,
-            blames: SealRow {
-                by_seat: [None; 15],
-            },
+            blames: SealRow::empty(),
             progress: 0,
             committed: None,
             entered: 0,
@@ -111,23 +117,14 @@ impl<const S: usize, R: Copy> State<S, R> {
     pub fn is_on(&self) -> bool
         ensures { result ≡ is_on self.entry.now.phase }
     {
-        match self.phase {
-            Phase::On => true,
-            Phase::Leaving { .. } => false,
-        }
+        matches!(self.phase, Phase::On)
     }
 
-    // A turn begins with no note, no votes, nothing offered.
+    // A new turn begins.
     pub fn new_round(&mut self)
         ensures { self.exit.now ≡ with_round new_round self.entry.now }
     {
-        self.round = Round {
-            note: None,
-            votes: SealRow {
-                by_seat: [None; 15],
-            },
-            offered: false,
-        };
+        self.round = Round::new();
     }
 
     // Leaves a view: whatever belongs to a view is cleared.
@@ -139,17 +136,13 @@ impl<const S: usize, R: Copy> State<S, R> {
         self.new_round();
         self.spoiled = false;
         self.blamed = false;
-        self.blames = SealRow {
-            by_seat: [None; 15],
-        };
+        self.blames = SealRow::empty();
     }
-}
 
-impl<const S: usize, R: Copy> State<S, R> {
     // Whether a notice of this view leads the seat out of a view.
     pub fn leaves_by(&self, view: u16) -> bool
         ensures { result ≡ leaves_by self.entry.now view }
     {
-        (self.view < view) | (self.is_on() & (self.view == view))
+        (self.view < view) || (self.is_on() && self.view == view)
     }
 }

@@ -6,7 +6,7 @@ ghost use Rattle.shelf.specs.Blocks.{held, size};
 ghost use Rattle.shelf.specs.Cells.{SameCells};
 ghost use Rattle.state.specs.TakeIn.{better, commits, extends, height_of, here, higher_than, judge_in, judge_new, keep_best, parent_there, shelve};
 
-use crate::state::{Best, Phase, State};
+use crate::state::{Best, State};
 use blocks::block::{Block, Rank};
 use blocks::ranks::same_block;
 use blocks::rows::kept_row;
@@ -22,22 +22,19 @@ pub enum Verdict {
     New,
 }
 
-impl<const S: usize, R> State<S, R> {
+impl<const S: usize, R: Copy> State<S, R> {
     // Whether the seat is on in the block's view.
     fn here(&self, block: &Block<R>) -> bool
         ensures { result ≡ here self.entry.now block.now }
     {
-        match self.phase {
-            Phase::On => self.view == block.rank.view,
-            Phase::Leaving { .. } => false,
-        }
+        self.is_on() && self.view == block.rank.view
     }
 
     // Whether the block's certificate would commit it.
     fn commits(&self, block: &Block<R>) -> bool
         ensures { result ≡ commits self.entry.now block.now }
     {
-        self.here(block) & !self.spoiled
+        self.here(block) && !self.spoiled
     }
 }
 
@@ -45,13 +42,10 @@ impl<const S: usize, R> State<S, R> {
 fn parent_there<R: Copy>(shelf: &Shelf<'_, R>, block: &Block<R>) -> bool
     ensures { result ≡ parent_there (held shelf.now) block.now }
 {
-    if block.height == 1 {
-        return true;
-    }
-    match shelf.find(block.parent) {
-        None => false,
-        Some(parent) => parent.height as u64 + 1 == block.height as u64,
-    }
+    block.height == 1
+        || shelf
+            .find(block.parent)
+            .is_some_and(|parent| parent.height as u64 + 1 == block.height as u64)
 }
 
 // Whether the block last committed is among the ancestors of this one.
@@ -66,14 +60,8 @@ fn extends<const L: usize, C: Content<L>>(
         return Ok(Verdict::New);
     };
     match shelf.read_below(block.parent_place(), last.height)? {
-        Some(found) => {
-            if same_block::<L, C>(found, last) {
-                Ok(Verdict::New)
-            } else {
-                Err(Refusal::Fork)
-            }
-        }
-        None => Err(Refusal::Fork),
+        Some(found) if same_block::<L, C>(found, last) => Ok(Verdict::New),
+        _ => Err(Refusal::Fork),
     }
 }
 
@@ -107,72 +95,47 @@ pub fn judge_in<const L: usize, const S: usize, C: Content<L>>(
 {
     match shelf.find(block.rank) {
         None => judge_new::<L, S, C>(state, shelf, block),
-        Some(found) => {
-            if same_block::<L, C>(found, block) {
-                Ok(Verdict::Known)
-            } else {
-                Err(Refusal::Rival)
-            }
-        }
+        Some(found) if same_block::<L, C>(found, block) => Ok(Verdict::Known),
+        Some(_) => Err(Refusal::Rival),
     }
-}
-
-// The height that is committed, 0 if none.
-fn height_if(commits: bool, height: u32) -> u32
-    ensures { result ≡ (if commits then height else 0) }
-{
-    if commits { height } else { 0 }
 }
 
 // A certificate to keep: its seals, and zeros after them.
-fn kept<R: Copy>(c: &Certificate<R, &[u8]>) -> Best<R>
-    ensures { result ≡ keep_best (plain_certificate c.now) }
-{
-    Best {
-        block: c.block,
-        mask: c.mask,
-        seals: kept_row(c.seals),
-    }
-}
-
-// Whether a rank is above best.
-fn above<R>(best: &Option<Best<R>>, rank: Rank) -> bool
-    ensures { result ≡ higher_than best.now rank }
-{
-    match best {
-        None => true,
-        Some(best) => best.block.rank.below(rank),
+impl<R: Copy> From<&Certificate<R, &[u8]>> for Best<R> {
+    fn from(c: &Certificate<R, &[u8]>) -> Best<R>
+        ensures { result ≡ keep_best (plain_certificate c.now) }
+    {
+        Best {
+            block: c.block,
+            mask: c.mask,
+            seals: kept_row(c.seals),
+        }
     }
 }
 
 impl<const S: usize, R: Copy> State<S, R> {
+    // Whether a rank is above best.
+    fn passes(&self, rank: Rank) -> bool
+        ensures { result ≡ higher_than self.entry.now.best rank }
+    {
+        self.best.as_ref().is_none_or(|best| best.block.rank < rank)
+    }
+
     // Best becomes the higher rank.
     fn keep_better(&mut self, c: &Certificate<R, &[u8]>)
         ensures { self.exit.now ≡ with_best (better self.entry.now.best (plain_certificate c.now)) self.entry.now }
     {
-        if !above(&self.best, c.block.rank) {
-            return;
-        }
-        self.best = Some(kept(c));
-    }
-
-    // The next turn begins where the seat is on in the certified block's view.
-    fn rise(&mut self, here: bool)
-        ensures { self.exit.now ≡ (if here then turn_rises (min (self.entry.now.turn + 1) 4294967295) self.entry.now else self.entry.now) }
-    {
-        if here {
-            self.turn = self.turn.saturating_add(1);
-            self.new_round();
+        if self.passes(c.block.rank) {
+            self.best = Some(Best::from(c));
         }
     }
 
-    fn commit(&mut self, commits: bool, block: Block<R>)
-        ensures { self.exit.now ≡ (if commits then with_committed block self.entry.now else self.entry.now) }
+    // The next turn begins.
+    fn rise(&mut self)
+        ensures { self.exit.now ≡ turn_rises (min (self.entry.now.turn + 1) 4294967295) self.entry.now }
     {
-        if commits {
-            self.committed = Some(block);
-            self.progress = self.now;
-        }
+        self.turn = self.turn.saturating_add(1);
+        self.new_round();
     }
 
     // The seat after a new certificate; answers the height that is committed, 0 if none.
@@ -183,27 +146,29 @@ impl<const S: usize, R: Copy> State<S, R> {
         let here = self.here(&c.block);
         let commits = self.commits(&c.block);
         self.keep_better(c);
-        self.rise(here);
-        self.commit(commits, c.block);
-        height_if(commits, c.block.height)
+        if here {
+            self.rise();
+        }
+        // an answer's height is 0 where nothing is committed, as docs/SEAT.md has it
+        if !commits {
+            return 0;
+        }
+        self.committed = Some(c.block);
+        self.progress = self.now;
+        c.block.height
     }
-}
 
-// Takes in a new certificate: its block is shelved, and the seat moves on. Answers the height that is committed.
-pub fn take<const S: usize, R: Copy>(
-    state: &mut State<S, R>,
-    shelf: &mut Shelf<'_, R>,
-    c: &Certificate<R, &[u8]>,
-) -> u32
-    requires { nat_lt (length (held shelf.old)) (size shelf.old) ≡ true }
-    ensures height { result ≡ height_of state.entry.now c.now.block }
-    ensures state { state.exit.now ≡ shelve (plain_certificate c.now) state.entry.now }
-    ensures blocks { held shelf.new ≡ held shelf.old ++ (c.now.block ∷ []) }
-    ensures size { size shelf.new ≡ size shelf.old }
-    ensures place { SameCells shelf.new shelf.old }
-{
-    match shelf.store(c.block) {
-        Ok(()) => state.shelve(c),
-        Err(_) => unreachable(),
+    // Takes in a new certificate: its block is shelved, and the seat moves on. Answers the height that is committed.
+    pub fn take(&mut self, shelf: &mut Shelf<'_, R>, c: &Certificate<R, &[u8]>) -> u32
+        requires { nat_lt (length (held shelf.old)) (size shelf.old) ≡ true }
+        ensures height { result ≡ height_of self.entry.now c.now.block }
+        ensures state { self.exit.now ≡ shelve (plain_certificate c.now) self.entry.now }
+        ensures blocks { held shelf.new ≡ held shelf.old ++ (c.now.block ∷ []) }
+        ensures place { SameCells shelf.new shelf.old }
+    {
+        let Ok(()) = shelf.store(c.block) else {
+            unreachable!()
+        };
+        self.shelve(c)
     }
 }

@@ -1,4 +1,4 @@
-use Rattle.std.proofs.Common.{length, Ok, sym, refl, ap, ◌∙◌, subst, le_trans, lt_of_le_of_lt, le-add_left}
+use Rattle.std.proofs.Common.{length, Ok, sym, refl, ap, ◌∙◌, subst, le_trans, lt_of_le_of_lt, le-add_left, rules}
 use prog.Align.{up-ge}
 use Rattle.std.proofs.lemmas.Result.{err_from_is_err_and}
 use Rattle.wire.specs.Lawful.{LawfulParts}
@@ -39,13 +39,16 @@ returns-in_err-message g c =
       check = c.in_err-message.ensures.kept;
     }
 
+pub invariant_of-call : goal.invariant_of-call
+invariant_of-call g c = record { short = c.args.self.now.short; room = enough c.args.self.now.state (length c.args.outbox.now) c.in_ok-ready.ensures }
+
 -- a seat has room for its state: the bound on the whole is one on the part
 pub hand_parts-requires : goal.hand_parts-requires
 hand_parts-requires g c = (
-  lt_of_le_of_lt (le_trans (le-add_left _ _) (up-ge _ _)) c.requires-raw.1.1.1.1.1.1,
+  search rules,
   (
+    lt_of_le_of_lt (le_trans (le-add_left _ _) (up-ge _ _)) c.requires-raw.1.1.1.1.1.1,
     subst (λ m. LawfulParts g.C.Content.kind g.row.S c.args.self.now.terms.seats.n (plain m)) (sym c.parts.ensures) c.in_ok-message.ensures.lawful,
-    (c.args.self.now.short, enough c.args.self.now.state (length c.args.outbox.now) c.in_ok-ready.ensures),
   ),
 )
 
@@ -59,15 +62,16 @@ returns-in_err-answer g c =
     let out = c.args.outbox.now in
     let m = plain c.parts.result.now in
     let e = c.in_err-answer.field-0.0 in
+    let d = c.in_err-answer.ensures.does in
     let p = err_from_is_err_and c.from_residual-in_err-answer.result c.from_residual-in_err-answer.ensures.1 in
     record {
       call = refused-by k s bs out (hand_parts k t s bs cells m) _ e p.0 c.from_residual-in_err-answer.result
-          c.hand_parts.new.state (held c.hand_parts.new.shelf) c.hand_parts.new.outbox
+          c.hand_parts.new.state (held c.hand_parts.new.shelf) _
           (hand-opened k t (g.Q.Rota.leads c.args.rota.now) (g.K.SealCheck.accepts c.args.check.now) s bs cells c.args.inbox.now (length out)
           c.in_ok-ready.ensures m (ap (λ x. Ok (plain x)) c.parts.ensures ∙ c.in_ok-message.ensures.value))
-          c.in_err-answer.ensures.does p.1 p.2;
+          (record { answer = d.answer; state = d.state; blocks = d.blocks; outbox = search rules }) p.1 p.2;
       terms = refl;
-      cells = c.in_err-answer.ensures.place;
+      cells = c.in_err-answer.ensures.cells;
       check = c.in_ok-message.ensures.kept;
     }
 
@@ -80,13 +84,17 @@ returns g c =
     let cells = size c.args.shelf.now in
     let out = c.args.outbox.now in
     let m = plain c.parts.result.now in
+    let d = c.in_ok-answer.ensures.does in
     record {
-      call = carried-by k s bs out (hand_parts k t s bs cells m) _ c.in_ok-answer.answer c.give.result
-          c.hand_parts.new.state (held c.hand_parts.new.shelf) c.hand_parts.new.outbox
+      call = carried-by k s bs out (hand_parts k t s bs cells m) _ c.in_ok-answer.answer c.dispatched.result
+          c.hand_parts.new.state _ (held c.hand_parts.new.shelf) _
           (hand-opened k t (g.Q.Rota.leads c.args.rota.now) (g.K.SealCheck.accepts c.args.check.now) s bs cells c.args.inbox.now (length out)
           c.in_ok-ready.ensures m (ap (λ x. Ok (plain x)) c.parts.ensures ∙ c.in_ok-message.ensures.value))
-          c.in_ok-answer.ensures.does;
-      terms = refl;
-      cells = c.in_ok-answer.ensures.place;
+          (record { answer = d.answer; state = d.state; blocks = d.blocks; outbox = search rules }) c.dispatched.ensures.answer c.dispatched.ensures.state;
+      terms = c.dispatched.ensures.terms;
+      cells = c.in_ok-answer.ensures.cells;
       check = c.in_ok-message.ensures.kept;
     }
+
+pub dispatched-requires : goal.dispatched-requires
+dispatched-requires g c = c.requires-raw.1.1.1.1.1.1

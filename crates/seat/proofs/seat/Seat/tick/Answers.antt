@@ -1,4 +1,4 @@
-use Rattle.std.proofs.Common.{length, Err, refl, le_trans, lt_of_le_of_lt, le-add_left}
+use Rattle.std.proofs.Common.{length, Err, refl, le_trans, lt_of_le_of_lt, le-add_left, rules}
 use prog.Align.{up-ge}
 use Rattle.std.proofs.lemmas.Result.{err_from_is_err_and}
 use Rattle.shelf.specs.Blocks.{held}
@@ -32,16 +32,14 @@ returns-then-self-ge-LAST_TICK g c =
       terms = refl;
     }
 
+pub invariant_of-call : goal.invariant_of-call
+invariant_of-call g c = record { short = c.args.self.now.short; room = enough c.args.self.now.state (length c.args.outbox.now) c.in_ok-ready.ensures }
+
 -- a seat has room for its state: the bound on the whole is one on the part
 pub tick_step-answer-requires : goal.tick_step-answer-requires
 tick_step-answer-requires g c =
-    let whole = c.requires-raw.1.1.1.1 in (
-      lt_of_le_of_lt (le_trans (le-add_left _ _) (up-ge _ _)) whole,
-      (
-        c.if-self-ge-LAST_TICK.false,
-        (enough c.args.self.now.state (length c.args.outbox.now) c.in_ok-ready.ensures, c.args.self.now.short),
-      ),
-    )
+    let whole = c.requires-raw.1.1.1.1 in
+    (search rules, (lt_of_le_of_lt (le_trans (le-add_left _ _) (up-ge _ _)) whole, c.if-self-ge-LAST_TICK.false))
 
 pub returns : goal.returns
 returns g c =
@@ -49,10 +47,15 @@ returns g c =
     let bs = held c.args.shelf.now in
     let out = c.args.outbox.now in
     let p = c.args.self.now.terms in
+    let t = c.tick_step-answer in
+    let d = c.dispatched in
     record {
-      call = carried g.C.Content.kind s bs out (tick p s bs (length out)) (tick_step p s bs) c.tick_step-answer.result c.give.result
-          c.tick_step-answer.new.state bs c.tick_step-answer.new.outbox
+      call = carried g.C.Content.kind s bs out (tick p s bs (length out)) (tick_step p s bs) t.result d.result
+          t.new.state _ bs _
           (tick_goes p s bs (length out) c.in_ok-ready.ensures c.if-self-ge-LAST_TICK.false)
-          c.tick_step-answer.ensures.answer c.tick_step-answer.ensures.state (tick-stays bs p s) c.tick_step-answer.ensures.outbox;
-      terms = refl;
+          d.ensures.answer d.ensures.state t.ensures.answer t.ensures.state (tick-stays bs p s) (search rules);
+      terms = d.ensures.terms;
     }
+
+pub dispatched-requires : goal.dispatched-requires
+dispatched-requires g c = c.requires-raw.1.1.1.1
