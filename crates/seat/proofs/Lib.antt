@@ -1,2 +1,3 @@
 pub mod Guards
+pub mod Nth
 pub mod Outcomes

@@ -9,52 +9,15 @@ use state::answer::{Answer, Item};
 fn part(bytes: &[u8], from: usize, to: usize) -> Option<&[u8]>
     ensures { option_map (λ x. x.now) result ≡ (if leb from to && nat_le to (length bytes.now) then Some (take (to - from) (drop from bytes.now)) else None) }
 {
-    if from > to {
-        return None;
-    }
-    if to > bytes.len() {
-        return None;
-    }
-    Some(&bytes[from..to])
+    bytes.get(from..to)
 }
 
-// Number k of one item, if it is there.
-fn only(item: Option<Item>, k: usize) -> Option<Item>
-    ensures { result ≡ nth (infront item []) k }
-{
-    if k == 0 { item } else { None }
-}
-
-// Number k of two.
-fn of_two(first: Option<Item>, second: Option<Item>, k: usize) -> Option<Item>
-    ensures { result ≡ nth (infront first (infront second [])) k }
-{
-    match first {
-        None => only(second, k),
-        Some(item) => {
-            if k == 0 {
-                Some(item)
-            } else {
-                only(second, k - 1)
-            }
-        }
-    }
-}
-
-// Number k of three.
-fn of_three(answer: &Answer, k: usize) -> Option<Item>
+// Number k of the items that are there.
+fn nth_item(answer: &Answer, k: usize) -> Option<Item>
     ensures { result ≡ nth (items_of answer.now) k }
 {
-    match answer.certificate {
-        None => of_two(answer.message, answer.blame, k),
-        Some(item) => {
-            if k == 0 {
-                Some(item)
-            } else {
-                of_two(answer.message, answer.blame, k - 1)
-            }
-        }
-    }
+    let items = [answer.certificate, answer.message, answer.blame];
+    items.iter().filter_map(|item| *item).nth(k)
 }
 
 // Item k of an answer, counted from 0: the message that was handed in, or a part of the outbox that the call wrote. Nothing
@@ -62,7 +25,7 @@ fn of_three(answer: &Answer, k: usize) -> Option<Item>
 pub fn item<'a>(answer: &Answer, k: usize, inbox: &'a [u8], outbox: &'a [u8]) -> Option<&'a [u8]>
     ensures { option_map (λ x. x.now) result ≡ item_of answer.now k inbox.now outbox.now }
 {
-    match of_three(answer, k) {
+    match nth_item(answer, k) {
         None => None,
         Some(Item::Inbox) => Some(inbox),
         Some(Item::Outbox { from, to }) => part(outbox, from, to),
