@@ -35,9 +35,7 @@ fn best_certificate<'a, const S: usize, R: Copy>(
     ensures body { plain_parent result ≡ best_body call.now.terms.now S best.now }
     ensures size { (L : ℕ) → parent_size L (plain_parent result) ≤ 526 + L }
 {
-    let Some(best) = best else {
-        return None;
-    };
+    let best = best.as_ref()?;
     Some(Certificate {
         block: best.block,
         mask: best.mask,

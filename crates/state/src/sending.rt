@@ -23,10 +23,8 @@ pub fn put<const L: usize, C: Content<L>>(
     ensures item { Some result ≡ item_at C.Content.kind from (Some (write (plain parts.now))) }
     ensures bytes { outbox.new ≡ put_item C.Content.kind from (Some (write (plain parts.now))) outbox.old }
 {
-    match write_parts::<L, C>(parts, outbox, from) {
-        Ok(to) => Item::Outbox { from, to },
-        Err(_) => unreachable!(),
-    }
+    let to = write_parts::<L, C>(parts, outbox, from).unwrap();
+    Item::Outbox { from, to }
 }
 
 // Where the next message begins.

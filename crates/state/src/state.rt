@@ -42,6 +42,7 @@ pub struct Round<const S: usize, R> {
 }
 
 // The certificate of the highest rank that a seat took in: its block, the set of seats that voted, and their seals in a row.
+// The row is of a fixed size, since a seat takes no heap; the set says how much of it is seals.
 #[derive(Drop)]
 pub struct Best<R> {
     pub block: Block<R>,

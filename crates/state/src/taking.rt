@@ -166,9 +166,7 @@ impl<const S: usize, R: Copy> State<S, R> {
         ensures blocks { held shelf.new ≡ held shelf.old ++ (c.now.block ∷ []) }
         ensures place { SameCells shelf.new shelf.old }
     {
-        let Ok(()) = shelf.store(c.block) else {
-            unreachable!()
-        };
+        shelf.store(c.block).unwrap();
         self.shelve(c)
     }
 }

@@ -15,7 +15,7 @@ use rota::leaders::Rota;
 use seals::check::SealCheck;
 use std::alloc::{AllocError, Global};
 
-// What a call says where memory is wanting.
+// What a call says where memory is wanting. It is not a From of Refusal, since `content` knows no allocator.
 fn no_memory(_: AllocError) -> Refusal
     ensures { result ≡ NoMemory }
 {

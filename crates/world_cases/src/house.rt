@@ -83,20 +83,25 @@ fn seal(rt: &impl Abort, message: &mut [u8], seat: u8, tag: u8, from: usize) -> 
     Ok(())
 }
 
+// The message of N bytes in front of an outbox, sealed so.
+fn sealed<const N: usize>(
+    rt: &impl Abort,
+    outbox: &[u8],
+    seat: u8,
+    tag: u8,
+    from: usize,
+) -> Result<[u8; N], Fail> {
+    let mut message = *outbox.first_chunk::<N>().ok_or("a short outbox")?;
+    seal(rt, &mut message, seat, tag, from)?;
+    Ok(message)
+}
+
 // The proposal at height 1 in front of an outbox, with the seal of seat 0.
 pub fn sealed_proposal(rt: &impl Abort, outbox: &[u8]) -> Result<[u8; 38], Fail> {
-    assert!(rt; outbox.len() >= 38);
-    let mut proposal = [0; 38];
-    proposal.copy_from_slice(&outbox[0..38]);
-    seal(rt, &mut proposal, 0, 1, 1)?;
-    Ok(proposal)
+    sealed(rt, outbox, 0, 1, 1)
 }
 
 // The vote in front of an outbox, with the seal of its seat.
 pub fn sealed_vote(rt: &impl Abort, outbox: &[u8], seat: u8) -> Result<[u8; 39], Fail> {
-    assert!(rt; outbox.len() >= 39);
-    let mut vote = [0; 39];
-    vote.copy_from_slice(&outbox[0..39]);
-    seal(rt, &mut vote, seat, 2, 2)?;
-    Ok(vote)
+    sealed(rt, outbox, seat, 2, 2)
 }
