@@ -6,6 +6,6 @@ pub(crate) mod cursor;
 pub mod laws;
 pub mod maker;
 pub mod message;
-pub(crate) mod numbers;
+pub mod numbers;
 pub mod reader;
 pub mod writer;
