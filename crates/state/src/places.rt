@@ -7,22 +7,12 @@ use crate::state::{State, Terms};
 use blocks::block::{Block, Rank};
 use content::refusal::Refusal;
 use rota::leaders::Rota;
+use wire::numbers::carries;
 
 // The last turn and the last height that a block can have.
 const LAST_TURN: u32 = 65535;
 
 const LAST_HEIGHT: u64 = 4294967295;
-
-// Whether a rank can be the parent's at this view and turn: an earlier view's at turn 0, else the turn before.
-fn carries(parent: Rank, view: u16, turn: u32) -> bool
-    ensures { result ≡ (if nat_eq turn 0 then nat_lt parent.view view else (parent.view == view) && parent.turn + 1 == turn) }
-{
-    if turn == 0 {
-        parent.view < view
-    } else {
-        parent.view == view && parent.turn as u32 + 1 == turn
-    }
-}
 
 impl<const S: usize, R: Copy> State<S, R> {
     // The height above best.
