@@ -70,12 +70,14 @@ pub fn blame<const L: usize, const S: usize, C: Content<L>>(
     })
 }
 
+// Whether a block is the note.
 fn is_note<const L: usize, C: Content<L>>(
     note: &Option<Note<C::Record>>,
     block: &Block<C::Record>,
 ) -> bool
     ensures { result ≡ is_note C.Content.kind note.now block.now }
 {
+    // a match, since no proof was found for is_some_and
     match note {
         None => false,
         Some(note) => same_block::<L, C>(&note.block, block),
