@@ -3,24 +3,22 @@ use Rattle.std.specs.Prelude.{ℕ, ◌+◌, Bool, false, cond, ◌&&◌, List, [
 use Rattle.content.specs.Kinds.{Kind}
 use Rattle.content.specs.Numbers.{spell}
 use Rattle.blocks.specs.declared.block.Block.{Block}
-use Rattle.blocks.specs.declared.block.Rank.{Rank}
 use Rattle.wire.specs.declared.message.Certificate.{Certificate}
 use Rattle.wire.specs.declared.message.Parts.{Parts}
 use Rattle.wire.specs.declared.message.Parts.TheVariants.{Proposal, Vote, Blame, Certified, Notice}
 
 -- whether a block of this view and turn may stand on a parent of this rank: one of an earlier view at turn 0, else the turn
 -- before of its own view
-abbrev pub carries : Rank → (view turn : ℕ) → Bool
-carries parent view turn =
-    cond (turn == 0) (nat_lt parent.view view) (parent.view == view && parent.turn + 1 == turn)
+abbrev pub carries : (pview pturn view turn : ℕ) → Bool
+carries pview pturn view turn = cond (turn == 0) (nat_lt pview view) (pview == view && pturn + 1 == turn)
 
--- the five numbers of a block: height 1 stands on the root, with turn 0 and zeros for the parent; above it, turn 0 needs
--- a parent of an earlier view, and a later turn the turn before of its own view
+-- the five numbers of a block: height 1 stands on the root, with turn 0 and zeros for the parent; above it, the parent
+-- carries the block
 abbrev pub lawful_numbers : (view turn height pview pturn : ℕ) → Bool
 lawful_numbers view turn height pview pturn =
     cond (height == 0) false
     (cond (height == 1) (turn == 0 && (pview == 0 && pturn == 0))
-    (cond (turn == 0) (nat_lt pview view) (pview == view && pturn + 1 == turn)))
+    (carries pview pturn view turn))
 
 module _ {L : ℕ} {R : Type 0} (k : Kind L R) where
   abbrev pub block_bytes : Block R → List ℕ

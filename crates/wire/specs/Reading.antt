@@ -1,6 +1,6 @@
 -- Reading a message, as a function on lists of bytes. Fields are read in the order in which they lie; `at` is the
 -- offset of what is left.
-use Rattle.std.specs.Prelude.{ℕ, zero, suc, ◌+◌, ◌-◌, ◌*◌, Bool, cond, ◌&&◌, List, [], ◌∷◌, length, take, drop, Some, None, Ok, Err, Option, Result, ◌==◌, nat_lt}
+use Rattle.std.specs.Prelude.{◌≡◌, ℕ, zero, suc, ◌+◌, ◌-◌, ◌*◌, Bool, cond, ◌&&◌, List, [], ◌∷◌, length, take, drop, Some, None, Ok, Err, Option, Result, ◌==◌, nat_lt}
 use Rattle.content.specs.Kinds.{Kind}
 use Rattle.content.specs.Numbers.{number}
 use Rattle.content.specs.declared.refusal.Refusal.{Refusal}
@@ -22,6 +22,11 @@ next (Err e) f = Err e
 -- what was read, and the bytes that are left
 abbrev pub Read : Type 0 → Type 0
 Read X = Result (X × List ℕ) Refusal
+
+-- len bytes were taken off the front: the offset and the bytes that are left, before and after
+pub record Moved (len at : ℕ) (rest : List ℕ) (at' : ℕ) (rest' : List ℕ) : Type 0 where
+  pub offset : at' ≡ at + len
+  pub left : length rest' + len ≡ length rest
 
 -- k bytes as they lie, or 1 at their offset
 abbrev pub peel : (k at : ℕ) → List ℕ → Read (List ℕ)

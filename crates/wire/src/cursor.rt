@@ -1,7 +1,7 @@
 // The fields of a message, each taken off the front of the bytes that are left.
 ghost use Rattle.std.specs.Prelude.{◌≡◌, ◌+◌, ◌^◌, ◌<◌, length, OnOk};
 ghost use Rattle.wire.specs.Meaning.{bytes_of, taken, taken_by};
-ghost use Rattle.wire.specs.Reading.{peel, peel_number, peel_seat, peel_mask, peel_seals, ended};
+ghost use Rattle.wire.specs.Reading.{Moved, peel, peel_number, peel_seat, peel_mask, peel_seals, ended};
 
 use blocks::masks::lawful_mask;
 use blocks::seats::SeatCount;
@@ -32,8 +32,7 @@ impl<'a> Cursor<'a> {
     // Some bytes, as they lie.
     pub(crate) fn take(&mut self, len: usize) -> Result<&'a [u8], Refusal>
         ensures value { taken_by bytes_of result self.new.rest.now ≡ peel len self.old.at self.old.rest.now }
-        ensures at { OnOk result (self.new.at ≡ self.old.at + len) }
-        ensures left { OnOk result (length self.new.rest.now + len ≡ length self.old.rest.now) }
+        ensures moved { OnOk result (Moved len self.old.at self.old.rest.now self.new.at self.new.rest.now) }
     {
         let short = Refusal::Short { at: self.at };
         let (front, rest) = self.rest.split_at_checked(len).ok_or(short)?;
@@ -45,8 +44,7 @@ impl<'a> Cursor<'a> {
     // The same, as many as the type says.
     fn array<const N: usize>(&mut self) -> Result<[u8; N], Refusal>
         ensures value { taken result self.new.rest.now ≡ peel N self.old.at self.old.rest.now }
-        ensures at { OnOk result (self.new.at ≡ self.old.at + N) }
-        ensures left { OnOk result (length self.new.rest.now + N ≡ length self.old.rest.now) }
+        ensures moved { OnOk result (Moved N self.old.at self.old.rest.now self.new.at self.new.rest.now) }
     {
         Ok(*self.take(N)?.as_array().unwrap())
     }
@@ -54,24 +52,21 @@ impl<'a> Cursor<'a> {
     // Numbers of one, two and four bytes: a line for each, since it is each type's own `from_le_bytes` that makes them.
     pub(crate) fn u8(&mut self) -> Result<u8, Refusal>
         ensures value { taken result self.new.rest.now ≡ peel_number 1 self.old.at self.old.rest.now }
-        ensures at { OnOk result (self.new.at ≡ self.old.at + 1) }
-        ensures left { OnOk result (length self.new.rest.now + 1 ≡ length self.old.rest.now) }
+        ensures moved { OnOk result (Moved 1 self.old.at self.old.rest.now self.new.at self.new.rest.now) }
     {
         Ok(u8::from_le_bytes(self.array()?))
     }
 
     pub(crate) fn u16(&mut self) -> Result<u16, Refusal>
         ensures value { taken result self.new.rest.now ≡ peel_number 2 self.old.at self.old.rest.now }
-        ensures at { OnOk result (self.new.at ≡ self.old.at + 2) }
-        ensures left { OnOk result (length self.new.rest.now + 2 ≡ length self.old.rest.now) }
+        ensures moved { OnOk result (Moved 2 self.old.at self.old.rest.now self.new.at self.new.rest.now) }
     {
         Ok(u16::from_le_bytes(self.array()?))
     }
 
     pub(crate) fn u32(&mut self) -> Result<u32, Refusal>
         ensures value { taken result self.new.rest.now ≡ peel_number 4 self.old.at self.old.rest.now }
-        ensures at { OnOk result (self.new.at ≡ self.old.at + 4) }
-        ensures left { OnOk result (length self.new.rest.now + 4 ≡ length self.old.rest.now) }
+        ensures moved { OnOk result (Moved 4 self.old.at self.old.rest.now self.new.at self.new.rest.now) }
     {
         Ok(u32::from_le_bytes(self.array()?))
     }
@@ -79,8 +74,7 @@ impl<'a> Cursor<'a> {
     // A seat, below the number of seats.
     pub(crate) fn seat(&mut self, seats: SeatCount) -> Result<u8, Refusal>
         ensures value { taken result self.new.rest.now ≡ peel_seat seats.n self.old.at self.old.rest.now }
-        ensures at { OnOk result (self.new.at ≡ self.old.at + 1) }
-        ensures left { OnOk result (length self.new.rest.now + 1 ≡ length self.old.rest.now) }
+        ensures moved { OnOk result (Moved 1 self.old.at self.old.rest.now self.new.at self.new.rest.now) }
     {
         let at = self.at;
         let seat = self.u8()?;
@@ -93,8 +87,7 @@ impl<'a> Cursor<'a> {
     // A set of exactly a quorum of seats, all below the number of seats.
     pub(crate) fn mask(&mut self, seats: SeatCount) -> Result<u16, Refusal>
         ensures value { taken result self.new.rest.now ≡ peel_mask seats.n self.old.at self.old.rest.now }
-        ensures at { OnOk result (self.new.at ≡ self.old.at + 2) }
-        ensures left { OnOk result (length self.new.rest.now + 2 ≡ length self.old.rest.now) }
+        ensures moved { OnOk result (Moved 2 self.old.at self.old.rest.now self.new.at self.new.rest.now) }
     {
         let at = self.at;
         let mask = self.u16()?;

@@ -22,7 +22,7 @@ fn ok_if(test: bool, refusal: Refusal) -> Result<(), Refusal>
     if test { Ok(()) } else { Err(refusal) }
 }
 
-// Any view lies in two bytes: its type says so, and who judges a message passes it on.
+// A view lies in two bytes: known of a number that is passed by itself, and not of one behind a reference.
 fn held(view: u16)
     ensures { TwoBytes view }
 {}

@@ -9,7 +9,7 @@ use blocks::block::Rank;
 // Whether a block of this view and turn may stand on a parent of this rank: one of an earlier view at turn 0, else the
 // turn before. The turn may be one that no rank can have.
 pub fn carries(parent: Rank, view: u16, turn: u32) -> bool
-    ensures { result ≡ carries parent view turn }
+    ensures { result ≡ carries parent.view parent.turn view turn }
 {
     if turn == 0 {
         parent.view < view

@@ -4,7 +4,7 @@ ghost use Rattle.wire.specs.Kinds.{read_as};
 ghost use Rattle.wire.specs.Lawful.{LawfulParts};
 ghost use Rattle.wire.specs.Layout.{message_bytes};
 ghost use Rattle.wire.specs.Meaning.{taken, taken_by, plain_certificate, plain, plain_body, plainly, meant};
-ghost use Rattle.wire.specs.Reading.{next, peel_rank, peel_content, peel_block, peel_body, ended, is_parent, read_proposal, read_parts};
+ghost use Rattle.wire.specs.Reading.{Moved, next, peel_rank, peel_content, peel_block, peel_body, ended, is_parent, read_proposal, read_parts};
 
 use crate::cursor::Cursor;
 use crate::message::{Certificate, Message, MessageKind, Parts};
@@ -17,8 +17,7 @@ use content::refusal::Refusal;
 impl<'a> Cursor<'a> {
     fn rank(&mut self) -> Result<Rank, Refusal>
         ensures value { taken result self.new.rest.now ≡ peel_rank self.old.at self.old.rest.now }
-        ensures at { OnOk result (self.new.at ≡ self.old.at + 4) }
-        ensures left { OnOk result (length self.new.rest.now + 4 ≡ length self.old.rest.now) }
+        ensures moved { OnOk result (Moved 4 self.old.at self.old.rest.now self.new.at self.new.rest.now) }
     {
         let view = self.u16()?;
         let turn = self.u16()?;
@@ -27,8 +26,7 @@ impl<'a> Cursor<'a> {
 
     fn content<const L: usize, C: Content<L>>(&mut self) -> Result<C::Record, Refusal>
         ensures value { taken result self.new.rest.now ≡ peel_content C.Content.kind self.old.at self.old.rest.now }
-        ensures at { OnOk result (self.new.at ≡ self.old.at + L) }
-        ensures left { OnOk result (length self.new.rest.now + L ≡ length self.old.rest.now) }
+        ensures moved { OnOk result (Moved L self.old.at self.old.rest.now self.new.at self.new.rest.now) }
     {
         let none = Refusal::NoContent { at: self.at() };
         C::read(self.take(L)?).ok_or(none)
@@ -37,8 +35,7 @@ impl<'a> Cursor<'a> {
     // A block; its numbers are judged before its content is read.
     fn block<const L: usize, C: Content<L>>(&mut self) -> Result<Block<C::Record>, Refusal>
         ensures value { taken result self.new.rest.now ≡ peel_block C.Content.kind self.old.at self.old.rest.now }
-        ensures at { OnOk result (self.new.at ≡ self.old.at + 12 + L) }
-        ensures left { OnOk result (length self.new.rest.now + 12 + L ≡ length self.old.rest.now) }
+        ensures moved { OnOk result (Moved (12 + L) self.old.at self.old.rest.now self.new.at self.new.rest.now) }
     {
         let numbers = Refusal::BadLayout { at: self.at() };
         let rank = self.rank()?;

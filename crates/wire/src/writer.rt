@@ -10,7 +10,7 @@ use blocks::block::Block;
 use content::kind::Content;
 use content::refusal::Refusal;
 
-// Memory that is written field after field, from an offset on.
+// Memory that is written field after field. It is lent whole, so an offset in it says where writing goes on.
 #[derive(Drop)]
 struct Pen<'a> {
     out: &'a mut [u8],
@@ -121,6 +121,7 @@ fn parent_size<const L: usize, R>(parent: &Option<Certificate<R, &[u8]>>) -> u12
     ensures is { result ≡ parent_size L (plain_parent parent.now) }
     ensures small { result < 2 ^ 66 }
 {
+    // a match, since the check finds no proof of map_or by itself
     match parent {
         None => 0,
         Some(c) => body_size::<L, R>(c),

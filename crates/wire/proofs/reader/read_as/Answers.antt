@@ -9,25 +9,25 @@ returns-in_err-block-in-Vote g c =
     rw (p.1, p.2, c.in-Vote.is)
     (vote_from_block g.C.Content.kind g.row.S c.args.seats.n (1 + length c.args.src.now.rest.now) c.args.src.now.at c.seat.new.self.at
     c.args.src.now.rest.now c.seat.new.self.rest.now _ _ c.in_ok-seat-in-Vote.ensures.value (rw (← c.in_err-block-in-Vote.ensures.value))
-    c.requires (omega (arith, c.in_ok-seat-in-Vote.ensures.at)))
+    c.requires (omega (arith, c.in_ok-seat-in-Vote.ensures.moved.offset)))
 
 pub returns-in_ok-seal-in-Vote : goal.returns-in_ok-seal-in-Vote
 returns-in_ok-seal-in-Vote g c =
     let at₂ : c.block.new.self.at ≡ 14 + g.row.L =
-    omega (arith, c.in_ok-seat-in-Vote.ensures.at, c.in_ok-block-in-Vote.ensures.at) in
+    omega (arith, c.in_ok-seat-in-Vote.ensures.moved.offset, c.in_ok-block-in-Vote.ensures.moved.offset) in
     let total : c.take.new.self.at + length c.take.new.self.rest.now ≡ 1 + length c.args.src.now.rest.now =
     omega (
       arith,
-      c.in_ok-seat-in-Vote.ensures.at,
-      c.in_ok-seat-in-Vote.ensures.left,
-      c.in_ok-block-in-Vote.ensures.at,
-      c.in_ok-block-in-Vote.ensures.left,
-      c.in_ok-seal-in-Vote.ensures.at,
-      c.in_ok-seal-in-Vote.ensures.left,
+      c.in_ok-seat-in-Vote.ensures.moved.offset,
+      c.in_ok-seat-in-Vote.ensures.moved.left,
+      c.in_ok-block-in-Vote.ensures.moved.offset,
+      c.in_ok-block-in-Vote.ensures.moved.left,
+      c.in_ok-seal-in-Vote.ensures.moved.offset,
+      c.in_ok-seal-in-Vote.ensures.moved.left,
     ) in
     let seal = rw at₂ at c.in_ok-seal-in-Vote.ensures.value in
     rw (c.end.ensures, c.in-Vote.is)
     (vote_from_block g.C.Content.kind g.row.S c.args.seats.n (1 + length c.args.src.now.rest.now) c.args.src.now.at c.seat.new.self.at
     c.args.src.now.rest.now c.seat.new.self.rest.now _ _ c.in_ok-seat-in-Vote.ensures.value
     (rw (← c.in_ok-block-in-Vote.ensures.value, ← seal) (ended_plain _ _ _ _ total))
-    c.requires (omega (arith, c.in_ok-seat-in-Vote.ensures.at)))
+    c.requires (omega (arith, c.in_ok-seat-in-Vote.ensures.moved.offset)))

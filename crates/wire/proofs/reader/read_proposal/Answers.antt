@@ -10,9 +10,9 @@ returns-in_err-parent g c =
     (above g.C.Content.kind g.row.S c.args.seats.n (1 + length c.args.src.now.rest.now) _ c.block.new.self.at c.take.new.self.at
     c.args.src.now.rest.now c.block.new.self.rest.now c.take.new.self.rest.now _ _ _
     c.in_ok-block.ensures.value c.in_ok-seal.ensures.value c.if-block-eq1.false (rw (← c.in_err-parent.ensures)) c.requires
-    (omega (arith, c.in_ok-block.ensures.at))
-    (omega (arith, c.in_ok-block.ensures.at, c.in_ok-seal.ensures.at))
-    (omega (arith, c.in_ok-block.ensures.at, c.in_ok-block.ensures.left, c.in_ok-seal.ensures.at, c.in_ok-seal.ensures.left)))
+    (omega (arith, c.in_ok-block.ensures.moved.offset))
+    (omega (arith, c.in_ok-block.ensures.moved.offset, c.in_ok-seal.ensures.moved.offset))
+    (omega (arith, c.in_ok-block.ensures.moved.offset, c.in_ok-block.ensures.moved.left, c.in_ok-seal.ensures.moved.offset, c.in_ok-seal.ensures.moved.left)))
 
 pub returns-then-not-is_parent : goal.returns-then-not-is_parent
 returns-then-not-is_parent g c =
@@ -20,6 +20,6 @@ returns-then-not-is_parent g c =
     (above g.C.Content.kind g.row.S c.args.seats.n (1 + length c.args.src.now.rest.now) _ c.block.new.self.at c.take.new.self.at
     c.args.src.now.rest.now c.block.new.self.rest.now c.take.new.self.rest.now _ _ _
     c.in_ok-block.ensures.value c.in_ok-seal.ensures.value c.if-block-eq1.false (rw (← c.in_ok-parent.ensures) (search rules)) c.requires
-    (omega (arith, c.in_ok-block.ensures.at))
-    (omega (arith, c.in_ok-block.ensures.at, c.in_ok-seal.ensures.at))
-    (omega (arith, c.in_ok-block.ensures.at, c.in_ok-block.ensures.left, c.in_ok-seal.ensures.at, c.in_ok-seal.ensures.left)))
+    (omega (arith, c.in_ok-block.ensures.moved.offset))
+    (omega (arith, c.in_ok-block.ensures.moved.offset, c.in_ok-seal.ensures.moved.offset))
+    (omega (arith, c.in_ok-block.ensures.moved.offset, c.in_ok-block.ensures.moved.left, c.in_ok-seal.ensures.moved.offset, c.in_ok-seal.ensures.moved.left)))

@@ -11,9 +11,9 @@ returns-in_err-take-clause-value g c =
 
 pub loop-i-preserved : goal.loop-i-preserved
 loop-i-preserved g c = (
-  rw c.in_ok-take.ensures.at
+  rw c.in_ok-take.ensures.moved.offset
       (sym (seals_more _ _ c.loop-i._i _ _ _ _ (omega arith) c.in_ok-take.ensures.value) ∙ c.loop-i.invariant.0),
-  omega (arith, c.in_ok-take.ensures.at, c.in_ok-take.ensures.left),
+  omega (arith, c.in_ok-take.ensures.moved.offset, c.in_ok-take.ensures.moved.left),
 )
 
 pub overflow_sub-bytes : goal.overflow_sub-bytes
