@@ -43,7 +43,8 @@ fn ask<const S: usize, K: SealCheck<S>>(
     Ok(())
 }
 
-// Asks about a row of seals on one statement, by rising seat: a loop, since each seal can end it.
+// Asks about a row of seals on one statement, by rising seat: a loop, since each seal can end it, and one that splits the
+// row itself, since the proof goes from seat to seat by the seals that are left.
 fn ask_row<const S: usize, K: SealCheck<S>>(
     seats: SeatCount,
     check: &mut K,

@@ -33,24 +33,28 @@ fn a_message_ends_with_its_last_field(rt: HostRuntime) {
     for kind in [0, 6, 9, 255] {
         assert_eq!(rt; reading(&[kind]), Err(Refusal::UnknownKind));
     }
-    let cases = [
-        (&PROPOSAL[..], 1, 86, 85),
-        (&FIRST_PROPOSAL[..], 1, 96, 38),
-        (&BLAME[..], 3, 13, 12),
-    ];
-    for (message, kind, len, at) in cases {
-        let longer = replaced(&rt, message, 0, kind);
-        assert!(rt; len <= 96);
-        assert_eq!(rt; reading(&longer[0..len]), Err(Refusal::Trailing { at }));
-    }
+    runs_on(&rt, &PROPOSAL, 86);
+    runs_on(&rt, &FIRST_PROPOSAL, 96);
+    runs_on(&rt, &BLAME, 13);
+}
+
+// With zeros behind it, up to a length, a message is refused where it ends.
+fn runs_on(rt: &impl Abort, message: &[u8], len: usize) {
+    let end = message.len();
+    assert!(rt; end <= len && len <= 96);
+    let mut longer = [0; 96];
+    longer[0..end].copy_from_slice(message);
+    assert_eq!(rt;
+        reading(&longer[0..len]),
+        Err(Refusal::Trailing { at: end })
+    );
 }
 
 // Each line replaces one byte: its offset, the byte, and what reading then says.
-fn damage(rt: &impl Abort, message: &[u8], lines: &[(usize, u8, Refusal)]) {
+fn damage<const N: usize>(rt: &impl Abort, message: &[u8; N], lines: &[(usize, u8, Refusal)]) {
     for (at, byte, refusal) in lines {
         let damaged = replaced(rt, message, *at, *byte);
-        assert!(rt; message.len() <= 96);
-        assert_eq!(rt; reading(&damaged[0..message.len()]), Err(*refusal));
+        assert_eq!(rt; reading(&damaged), Err(*refusal));
     }
 }
 
@@ -140,7 +144,7 @@ fn votes_and_blames_are_of_seats_below_three(rt: HostRuntime) {
 fn masks_are_of_exactly_a_quorum_of_seats(rt: HostRuntime) {
     for mask in [3, 5, 6] {
         let good = replaced(&rt, &NOTICE, 3, mask);
-        assert_eq!(rt; reading(&good[0..21]), Ok(()));
+        assert_eq!(rt; reading(&good), Ok(()));
     }
     let bad = Refusal::BadLayout { at: 3 };
     damage(
@@ -169,10 +173,9 @@ fn masks_are_of_exactly_a_quorum_of_seats(rt: HostRuntime) {
 #[test]
 fn numbers_are_judged_before_content_and_masks_before_seals(rt: HostRuntime) {
     let twice = replaced(&rt, &replaced(&rt, &VOTE, 14, 9), 6, 0);
-    assert_eq!(rt; reading(&twice[0..39]), Err(Refusal::BadLayout { at: 2 }));
+    assert_eq!(rt; reading(&twice), Err(Refusal::BadLayout { at: 2 }));
     assert_eq!(rt; reading(&twice[0..20]), Err(Refusal::BadLayout { at: 2 }));
     let mask = replaced(&rt, &NOTICE, 3, 7);
     assert_eq!(rt; reading(&mask[0..5]), Err(Refusal::BadLayout { at: 3 }));
-    let height = replaced(&rt, &PROPOSAL, 5, 3);
-    assert_eq!(rt; reading(&height[0..86]), Err(Refusal::Trailing { at: 85 }));
+    runs_on(&rt, &replaced(&rt, &PROPOSAL, 5, 3), 86);
 }

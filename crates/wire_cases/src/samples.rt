@@ -39,10 +39,14 @@ pub fn reading(bytes: &[u8]) -> Result<(), Refusal> {
 }
 
 // A message with one byte replaced.
-pub fn replaced(rt: &impl Abort, message: &[u8], at: usize, byte: u8) -> [u8; 96] {
-    assert!(rt; (message.len() <= 96) && (at < message.len()));
-    let mut out = [0; 96];
-    out[0..message.len()].copy_from_slice(message);
+pub fn replaced<const N: usize>(
+    rt: &impl Abort,
+    message: &[u8; N],
+    at: usize,
+    byte: u8,
+) -> [u8; N] {
+    assert!(rt; at < N);
+    let mut out = *message;
     out[at] = byte;
     out
 }

@@ -25,7 +25,7 @@ fn opening(bytes: &[u8]) -> Result<(), Refusal> {
 // The seal of a seat on a tag and a part of the message, put in place.
 fn seal(
     rt: &impl Abort,
-    message: &mut [u8; 96],
+    message: &mut [u8],
     seat: u8,
     tag: u8,
     body: (usize, usize),
@@ -33,16 +33,16 @@ fn seal(
 ) -> Result<(), Fail> {
     let house = HouseSeals::new(&KEYS, 3)?;
     let (from, to) = body;
-    assert!(rt; (from <= to) && (to <= 96));
-    assert!(rt; at <= 88);
+    assert!(rt; from <= to && to <= message.len());
+    assert!(rt; 8 <= message.len() && at <= message.len() - 8);
     let seal = house.sign(seat, tag, &message[from..to]).ok_or("no key")?;
     message[at..at + 8].copy_from_slice(&seal);
     Ok(())
 }
 
 // Turns a bit of the seal at an offset.
-fn spoilt(rt: &impl Abort, message: &[u8; 96], at: usize) -> [u8; 96] {
-    assert!(rt; at < 96);
+fn spoilt<const N: usize>(rt: &impl Abort, message: &[u8; N], at: usize) -> [u8; N] {
+    assert!(rt; at < N);
     let mut out = *message;
     out[at] ^= 1;
     out
@@ -53,15 +53,15 @@ fn spoilt(rt: &impl Abort, message: &[u8; 96], at: usize) -> [u8; 96] {
 fn a_proposal_is_asked_about_its_own_seal_and_then_its_parents(
     rt: HostRuntime,
 ) -> Result<(), Fail> {
-    let mut m = replaced(&rt, &PROPOSAL, 0, 1);
+    let mut m = PROPOSAL;
     seal(&rt, &mut m, 1, 1, (1, 30), 30)?;
     seal(&rt, &mut m, 0, 2, (38, 67), 69)?;
-    assert_eq!(rt; opening(&m[0..85]), Err(Refusal::BadSeal { seat: 2 }));
+    assert_eq!(rt; opening(&m), Err(Refusal::BadSeal { seat: 2 }));
     seal(&rt, &mut m, 2, 2, (38, 67), 77)?;
-    assert_eq!(rt; opening(&m[0..85]), Ok(()));
+    assert_eq!(rt; opening(&m), Ok(()));
     for (at, seat) in [(37, 1), (69, 0), (84, 2)] {
         assert_eq!(rt;
-            opening(&spoilt(&rt, &m, at)[0..85]),
+            opening(&spoilt(&rt, &m, at)),
             Err(Refusal::BadSeal { seat })
         );
     }
@@ -74,26 +74,23 @@ fn a_proposal_is_asked_about_its_own_seal_and_then_its_parents(
 fn votes_blames_certificates_and_notices_are_asked_about_their_seals(
     rt: HostRuntime,
 ) -> Result<(), Fail> {
-    let mut vote = replaced(&rt, &VOTE, 0, 2);
+    let mut vote = VOTE;
     seal(&rt, &mut vote, 2, 2, (2, 31), 31)?;
-    assert_eq!(rt; opening(&vote[0..39]), Ok(()));
+    assert_eq!(rt; opening(&vote), Ok(()));
     assert_eq!(rt; opening(&VOTE), Err(Refusal::BadSeal { seat: 2 }));
-    let mut blame = replaced(&rt, &BLAME, 0, 3);
+    let mut blame = BLAME;
     seal(&rt, &mut blame, 1, 3, (2, 4), 4)?;
-    assert_eq!(rt; opening(&blame[0..12]), Ok(()));
+    assert_eq!(rt; opening(&blame), Ok(()));
     assert_eq!(rt; opening(&BLAME), Err(Refusal::BadSeal { seat: 1 }));
-    let mut certified = replaced(&rt, &CERTIFIED, 0, 4);
+    let mut certified = CERTIFIED;
     seal(&rt, &mut certified, 0, 2, (1, 30), 32)?;
-    assert_eq!(rt;
-        opening(&certified[0..48]),
-        Err(Refusal::BadSeal { seat: 1 })
-    );
+    assert_eq!(rt; opening(&certified), Err(Refusal::BadSeal { seat: 1 }));
     seal(&rt, &mut certified, 1, 2, (1, 30), 40)?;
-    assert_eq!(rt; opening(&certified[0..48]), Ok(()));
-    let mut notice = replaced(&rt, &NOTICE, 0, 5);
+    assert_eq!(rt; opening(&certified), Ok(()));
+    let mut notice = NOTICE;
     seal(&rt, &mut notice, 1, 3, (1, 3), 5)?;
     seal(&rt, &mut notice, 2, 3, (1, 3), 13)?;
-    assert_eq!(rt; opening(&notice[0..21]), Ok(()));
+    assert_eq!(rt; opening(&notice), Ok(()));
     assert_eq!(rt; opening(&NOTICE), Err(Refusal::BadSeal { seat: 1 }));
     Ok(())
 }
