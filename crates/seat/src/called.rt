@@ -164,6 +164,7 @@ impl<const L: usize, const S: usize, C: Content<L>> Seat<L, S, C> {
     }
 
     // Hands a message in: it is read, its seals are checked, and the seat steps. Nothing is allocated, and no message is copied.
+    // Rota and check are two arguments, as the caller has them: a tick takes neither, and an offer the rota alone.
     pub fn hand_in<Q: Rota, K: SealCheck<S>>(
         &mut self,
         shelf: &mut Shelf<'_, C::Record>,

@@ -152,6 +152,7 @@ fn ask_all<'a, const L: usize, const S: usize, C: Content<L>, Q: Rota, K: SealCh
 }
 
 // Reads a message and asks the seal check about every seal, in the order in which they lie. No byte is copied.
+// The check may keep a state of its own, so whoever is lent it says that its meaning stays (`kept`), here and in the calls above.
 pub fn open<'a, const L: usize, const S: usize, C: Content<L>, Q: Rota, K: SealCheck<S>>(
     seats: SeatCount,
     bytes: &'a [u8],

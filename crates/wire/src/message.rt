@@ -69,6 +69,7 @@ impl TryFrom<u8> for MessageKind {
 }
 
 // A message that keeps the layout for its number of seats: only reading and the checked maker give one.
+// That its parts are lawful is what those promise, and no invariant: the type names no kind, no number of seats and no seal.
 #[derive(Drop)]
 pub struct Message<'a, R> {
     parts: Parts<R, &'a [u8]>,

@@ -10,7 +10,8 @@ use blocks::block::Block;
 use content::kind::Content;
 use content::refusal::Refusal;
 
-// Memory that is written field after field. It is lent whole, so an offset in it says where writing goes on.
+// Memory that is written field after field. It is lent whole, so an offset in it says where writing goes on;
+// that it stays the same memory is no fact of one pen but of the one before and the one after, so each method says it.
 #[derive(Drop)]
 struct Pen<'a> {
     out: &'a mut [u8],
