@@ -27,7 +27,7 @@ use state::state::{Phase, Round, State, Terms};
 use wire::asking::open;
 
 // The least room that a call wants to write into.
-pub const OUTBOX: usize = 1024;
+pub const OUTBOX: usize = wire::writer::OUTBOX;
 
 // The clock stops here.
 pub const LAST_TICK: u32 = 1_000_000_000;
@@ -68,7 +68,7 @@ impl<const L: usize, const S: usize, C: Content<L>> Seat<L, S, C> {
                 delta,
                 patience,
             },
-            // in full: State::new asks that the state's size be known, and nothing here tells it
+            // in full: State::new and Round::new ask that the size of what they make be known, and nothing here tells it
             state: State {
                 now: 0,
                 phase: Phase::On,
@@ -78,16 +78,12 @@ impl<const L: usize, const S: usize, C: Content<L>> Seat<L, S, C> {
                 best: None,
                 round: Round {
                     note: None,
-                    votes: SealRow {
-                        by_seat: [None; 15],
-                    },
+                    votes: SealRow::empty(),
                     offered: false,
                 },
                 spoiled: false,
                 blamed: false,
-                blames: SealRow {
-                    by_seat: [None; 15],
-                },
+                blames: SealRow::empty(),
                 progress: 0,
                 committed: None,
                 entered: 0,

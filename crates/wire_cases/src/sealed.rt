@@ -43,9 +43,7 @@ fn seal(
 // Turns a bit of the seal at an offset.
 fn spoilt<const N: usize>(rt: &impl Abort, message: &[u8; N], at: usize) -> [u8; N] {
     assert!(rt; at < N);
-    let mut out = *message;
-    out[at] ^= 1;
-    out
+    replaced(rt, message, at, message[at] ^ 1)
 }
 
 // View 1 is led by seat 1; the parent has the seals of seats 0 and 2.
