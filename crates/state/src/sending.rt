@@ -8,6 +8,7 @@ ghost use Rattle.state.specs.Steps.{Leaves};
 
 use crate::answer::Item;
 use crate::call::Call;
+use crate::state::Terms;
 use blocks::block::Block;
 use content::kind::Content;
 use wire::message::Parts;
@@ -37,33 +38,59 @@ pub fn end_of(item: &Option<Item>) -> usize
     }
 }
 
+// The seat's own blame of a view, with zero bytes as its seal, for the signing box to fill.
+pub fn put_blame<const L: usize, const S: usize, C: Content<L>>(
+    terms: &Terms,
+    view: u16,
+    outbox: &mut [u8],
+    from: usize,
+) -> Item
+    requires { from + (4 + S) ≤ length outbox.old }
+    ensures item { Some result ≡ item_at C.Content.kind from (Some (write (Blame terms.now.own view (replicate S 0)))) }
+    ensures bytes { outbox.new ≡ put_item C.Content.kind from (Some (write (Blame terms.now.own view (replicate S 0)))) outbox.old }
+{
+    let seal = [0; S];
+    let parts = Parts::Blame {
+        seat: terms.own,
+        view,
+        seal: &seal[..],
+    };
+    put::<L, C>(&parts, outbox, from)
+}
+
+// The seat's own vote, likewise: the first that is written.
+pub fn put_vote<const L: usize, const S: usize, C: Content<L>>(
+    terms: &Terms,
+    block: &Block<C::Record>,
+    outbox: &mut [u8],
+) -> Item
+    requires { 14 + L + S ≤ length outbox.old }
+    ensures item { Some result ≡ item_at C.Content.kind 0 (Some (write (Vote terms.now.own block.now (replicate S 0)))) }
+    ensures bytes { outbox.new ≡ put_item C.Content.kind 0 (Some (write (Vote terms.now.own block.now (replicate S 0)))) outbox.old }
+{
+    let seal = [0; S];
+    let parts = Parts::Vote {
+        seat: terms.own,
+        block: *block,
+        seal: &seal[..],
+    };
+    put::<L, C>(&parts, outbox, 0)
+}
+
+// The same in a call, whose outbox has room.
 impl<const S: usize> Call<'_, S> {
-    // The seat's own blame of a view, with zero bytes as its seal, for the signing box to fill.
     pub fn put_blame<const L: usize, C: Content<L>>(&mut self, view: u16, from: usize) -> Item
         requires { from + (4 + S) ≤ length self.old.outbox.now }
         ensures item { Some result ≡ item_at C.Content.kind from (Some (write (Blame self.old.terms.now.own view (replicate S 0)))) }
         ensures call { Leaves self.new self.old (put_item C.Content.kind from (Some (write (Blame self.old.terms.now.own view (replicate S 0)))) self.old.outbox.now) }
     {
-        let seal = [0; S];
-        let parts = Parts::Blame {
-            seat: self.terms.own,
-            view,
-            seal: &seal[..],
-        };
-        put::<L, C>(&parts, self.outbox, from)
+        put_blame::<L, S, C>(self.terms, view, self.outbox, from)
     }
 
-    // The seat's own vote, likewise: the first that is written.
     pub fn put_vote<const L: usize, C: Content<L>>(&mut self, block: &Block<C::Record>) -> Item
         ensures item { Some result ≡ item_at C.Content.kind 0 (Some (write (Vote self.old.terms.now.own block.now (replicate S 0)))) }
         ensures call { Leaves self.new self.old (put_item C.Content.kind 0 (Some (write (Vote self.old.terms.now.own block.now (replicate S 0)))) self.old.outbox.now) }
     {
-        let seal = [0; S];
-        let parts = Parts::Vote {
-            seat: self.terms.own,
-            block: *block,
-            seal: &seal[..],
-        };
-        put::<L, C>(&parts, self.outbox, 0)
+        put_vote::<L, S, C>(self.terms, block, self.outbox)
     }
 }
