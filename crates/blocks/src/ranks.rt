@@ -43,8 +43,8 @@ impl<R> Block<R> {
 pub fn same_block<const L: usize, C: Content<L>>(a: &Block<C::Record>, b: &Block<C::Record>) -> bool
     ensures { result ≡ same_block C.Content.kind a.now b.now }
 {
-    a.rank == b.rank
+    a.rank.same(b.rank)
         && a.height == b.height
-        && a.parent == b.parent
+        && a.parent.same(b.parent)
         && C::same(&a.content, &b.content)
 }

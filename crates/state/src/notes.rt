@@ -8,6 +8,7 @@ ghost use Rattle.state.specs.declared.notes.Reaction.TheVariants.{Accepted};
 
 use crate::state::{Note, Phase, State};
 use blocks::block::Block;
+use blocks::ranks::at_least;
 
 // What a proposal does to a seat.
 #[derive(Clone, Copy, PartialEq, Eq)]
@@ -44,7 +45,7 @@ impl<const S: usize, R: Copy> State<S, R> {
     fn on_lock(&self, block: &Block<R>) -> bool
         ensures { result ≡ at_least (parent_of block.now) self.entry.now.lock }
     {
-        block.parent_place() >= self.lock
+        at_least(block.parent_place(), self.lock)
     }
 
     // Whether a proposal may be accepted: at turn 0 only on the lock or above.

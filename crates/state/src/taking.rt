@@ -118,7 +118,9 @@ impl<const S: usize, R: Copy> State<S, R> {
     fn passes(&self, rank: Rank) -> bool
         ensures { result ≡ higher_than self.entry.now.best rank }
     {
-        self.best.as_ref().is_none_or(|best| best.block.rank < rank)
+        self.best
+            .as_ref()
+            .is_none_or(|best| best.block.rank.below(rank))
     }
 
     // Best becomes the higher rank.
@@ -164,6 +166,7 @@ impl<const S: usize, R: Copy> State<S, R> {
         ensures height { result ≡ height_of self.entry.now c.now.block }
         ensures state { self.exit.now ≡ shelve (plain_certificate c.now) self.entry.now }
         ensures blocks { held shelf.new ≡ held shelf.old ++ (c.now.block ∷ []) }
+        ensures size { size shelf.new ≡ size shelf.old }
         ensures place { SameCells shelf.new shelf.old }
     {
         shelf.store(c.block).unwrap();

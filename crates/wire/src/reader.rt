@@ -84,7 +84,7 @@ pub(crate) fn is_parent<R: Copy, T: Copy>(block: &Block<R>, certificate: &Certif
     ensures { result ≡ is_parent block.now certificate.now }
 {
     let below = &certificate.block;
-    below.rank == block.parent && below.height as u64 + 1 == block.height as u64
+    below.rank.same(block.parent) && below.height as u64 + 1 == block.height as u64
 }
 
 // Above height 1 a proposal carries the certificate of its parent.
