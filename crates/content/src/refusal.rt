@@ -5,31 +5,32 @@ ghost use Rattle.content.specs.Refusals.{number_of, detail_of};
 
 use thiserror::Error;
 
+// A reason that is followed by a detail is an argument of its own, so that a writer is handed it by itself.
 #[derive(Clone, Copy, PartialEq, Eq, Debug, Error)]
 pub enum Refusal {
     // 0: no rule of the log was broken
     #[error("no memory is left")]
     NoMemory,
     // 1
-    #[error("a field does not fit into the bytes that are left, at byte {at}")]
+    #[error("{}, at byte {at}", "a field does not fit into the bytes that are left")]
     Short { at: usize },
     // 2
-    #[error("bytes are left over after the last field, at byte {at}")]
+    #[error("{}, at byte {at}", "bytes are left over after the last field")]
     Trailing { at: usize },
     // 3
     #[error("the first byte is no kind of message")]
     UnknownKind,
     // 4
-    #[error("a seat, a mask or a block's numbers break the layout, at byte {at}")]
+    #[error("{}, at byte {at}", "a seat, a mask or a block's numbers break the layout")]
     BadLayout { at: usize },
     // 5
-    #[error("this is no content of the kind, at byte {at}")]
+    #[error("{}, at byte {at}", "this is no content of the kind")]
     NoContent { at: usize },
     // 6
-    #[error("the certificate is not the named parent's, at byte {at}")]
+    #[error("{}, at byte {at}", "the certificate is not the named parent's")]
     WrongParent { at: usize },
     // 7
-    #[error("the seal check says no to a seal of seat {seat}")]
+    #[error("{} to a seal of seat {seat}", "the seal check says no")]
     BadSeal { seat: u8 },
     // 8
     #[error("the last view cannot be blamed")]
