@@ -16,7 +16,10 @@ pub fn blank_cells<R: Copy>(
 ) -> Result<Vec<Block<R>>, AllocError>
     ensures { IfOk result (λ v. length v.items ≡ count) }
 {
-    Ok(vec![in heap; blank; count]?)
+    // resize copies the blank; vec! would clone it, and a clone that its type writes by hand may fail
+    let mut cells = Vec::new(heap);
+    cells.resize(count, blank)?;
+    Ok(cells)
 }
 
 impl<const L: usize, const S: usize, C: Content<L>> Desk<L, S, C> {
