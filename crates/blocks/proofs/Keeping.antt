@@ -16,6 +16,18 @@ use Rattle.std.proofs.lemmas.List.{take_more}
 use Rattle.blocks.specs.Keeping.{padded}
 use Rattle.blocks.specs.Masks.{Kept, count_kept, mask_kept, row_kept}
 
+-- how many of one
+abbrev pub one : Option (List ℕ) → ℕ
+one None = 0
+one (Some seal) = 1
+
+-- how many are there so far, one seat on
+count_push : (kept : Kept) (slot : Option (List ℕ)) → count_kept (kept ++ slot ∷ []) ≡ count_kept kept + one slot
+count_push [] None = refl
+count_push [] (Some seal) = refl
+count_push (None ∷ kept) slot = count_push kept slot
+count_push (Some seal ∷ kept) slot = let h : count_kept (kept ++ slot ∷ []) ≡ count_kept kept + one slot = count_push kept slot in omega arith
+
 -- the set of the seats so far, one seat on
 mask_push : (kept : Kept) (slot : Option (List ℕ)) → mask_kept (kept ++ slot ∷ []) ≡ mask_kept kept + option_len slot * 2 ^ length kept
 mask_push [] None = refl
@@ -37,7 +49,18 @@ none_len : (slot : Option (List ℕ)) → is_some slot ≡ false → option_len 
 none_len None h = refl
 none_len (Some seal) h = absurd (cc)
 
+pub one-some : (slot : Option (List ℕ)) (b : Bool) → b ≡ is_some slot → b ≡ true → one slot ≡ 1
+one-some None b e h = absurd (let z : ◌≡◌ {A = ℕ} 0 1 = cc in omega arith)
+one-some (Some seal) b e h = refl
+
+pub one_none : (slot : Option (List ℕ)) (b : Bool) → b ≡ is_some slot → b ≡ false → one slot ≡ 0
+one_none None b e h = refl
+one_none (Some seal) b e h = absurd (let z : ◌≡◌ {A = ℕ} 0 1 = cc in omega arith)
+
 module _ (kept : Kept) (i : ℕ) (slot : Option (List ℕ)) (l : i < length kept) (e : slot ≡ get_or kept i slot) where
+  pub count_more : count_kept (take (i + 1) kept) ≡ count_kept (take i kept) + one slot
+  count_more = ap count_kept (take_more kept i slot l ∙ ap (λ s. take i kept ++ s ∷ []) (sym e)) ∙ count_push (take i kept) slot
+
   mask_more : mask_kept (take (i + 1) kept) ≡ mask_kept (take i kept) + option_len slot * 2 ^ i
   mask_more =
       ap mask_kept (take_more kept i slot l ∙ ap (λ s. take i kept ++ s ∷ []) (sym e)) ∙ mask_push (take i kept) slot

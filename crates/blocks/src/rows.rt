@@ -1,5 +1,5 @@
 // Seals kept by seat, and seals in a row.
-ghost use Rattle.std.specs.Prelude.{◌≡◌, ℕ, List, replicate, None};
+ghost use Rattle.std.specs.Prelude.{◌≡◌, ℕ, ◌≤◌, List, length, replicate, None};
 ghost use Rattle.std.specs.Iterator.{IsFinite, AlwaysYields};
 ghost use Rattle.blocks.specs.Keeping.{has_kept, keep_seal, padded};
 ghost use Rattle.blocks.specs.Masks.{count_kept, mask_kept, row_kept};
@@ -12,6 +12,20 @@ pub const ROW: usize = 512;
 #[derive(Drop)]
 pub struct SealRow<const S: usize> {
     pub by_seat: [Option<[u8; S]>; 15],
+}
+
+// How many seals are there: a loop over the seats, since a chain took more than twice its time, and it is asked at each vote.
+fn count_kept<const S: usize>(slots: &[Option<[u8; S]>]) -> u8
+    requires { length slots.now ≤ 15 }
+    ensures { result ≡ count_kept slots.now }
+{
+    let mut count = 0;
+    for i in 0..slots.len() {
+        if slots[i].is_some() {
+            count += 1;
+        }
+    }
+    count
 }
 
 // A row of these bytes: zeros behind them, and what does not fit is cut off.
@@ -55,7 +69,7 @@ impl<const S: usize> SealRow<S> {
     pub fn count(&self) -> u8
         ensures { result ≡ count_kept self.now.by_seat }
     {
-        self.by_seat.iter().flatten().count() as u8
+        count_kept(&self.by_seat)
     }
 
     // The set of their seats.

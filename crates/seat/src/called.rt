@@ -68,7 +68,8 @@ impl<const L: usize, const S: usize, C: Content<L>> Seat<L, S, C> {
                 delta,
                 patience,
             },
-            // in full: State::new and Round::new ask that the size of what they make be known, and nothing here tells it
+            // in full: State::new and Round::new ask that the size of what they make be known, and nothing here tells it;
+            // the rows too, since SealRow::empty makes each aside and copies it, which took most of an offer's time
             state: State {
                 now: 0,
                 phase: Phase::On,
@@ -78,12 +79,16 @@ impl<const L: usize, const S: usize, C: Content<L>> Seat<L, S, C> {
                 best: None,
                 round: Round {
                     note: None,
-                    votes: SealRow::empty(),
+                    votes: SealRow {
+                        by_seat: [None; 15],
+                    },
                     offered: false,
                 },
                 spoiled: false,
                 blamed: false,
-                blames: SealRow::empty(),
+                blames: SealRow {
+                    by_seat: [None; 15],
+                },
                 progress: 0,
                 committed: None,
                 entered: 0,

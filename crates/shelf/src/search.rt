@@ -11,7 +11,8 @@ use content::refusal::Refusal;
 pub fn first_of_rank<R: Copy>(blocks: &[Block<R>], rank: Rank) -> Option<&Block<R>>
     ensures { option_map (λ x. x.now) result ≡ find rank blocks.now }
 {
-    blocks.iter().find(|block| block.rank == rank)
+    // move: by reference, a walk up a chain would read the rank from memory again at every block
+    blocks.iter().find(move |block| block.rank.same(rank))
 }
 
 // The highest turn among the blocks of a view.
