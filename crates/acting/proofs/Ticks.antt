@@ -164,6 +164,15 @@ module _ {L S : ℕ} {R : Type 0} (k : Kind L R) (p : Terms) where
       subst (λ (o : Outcome S R). Shows k o answer s1 out out') (sym (tick-on p phase s bs e))
       (record { answer_is = h.answer_is; state_is = h.state_is; outbox_is = h.outbox_is })
 
--- an outbox has room for a blame
-pub room-blame : (S room : ℕ) → S ≤ 64 → 1024 ≤ room → 0 + (4 + S) ≤ room
-room-blame S room hs hr = omega arith
+-- an outbox has room for a vote and a blame
+pub room-on : (L S room : ℕ) → L ≤ 64 → S ≤ 64 → 1024 ≤ room → 18 + L + (S + S) ≤ room
+room-on L S room hl hs hr = omega arith
+
+pub room-leaving : (S room : ℕ) → S ≤ 64 → 1024 ≤ room → 4 + S ≤ room
+room-leaving S room hs hr = omega arith
+
+pub room-blame : (S room : ℕ) → 4 + S ≤ room → 0 + (4 + S) ≤ room
+room-blame S room h = omega arith
+
+pub room-vote : (L S room : ℕ) → 18 + L + (S + S) ≤ room → 14 + L + S ≤ room
+room-vote L S room h = omega arith

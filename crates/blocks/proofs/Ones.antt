@@ -16,6 +16,10 @@ pub ones-out : (mask i n : ℕ) → i < n → bit mask i ≡ false → ones mask
 unfolding ones
 ones-out mask i n h t = let e : n - i ≡ suc (n - (i + 1)) = omega arith in rw (e, add-one i, t) (omega arith)
 
+pub ones_none : (mask i n : ℕ) → n ≤ i → ones mask i (n - i) ≡ 0
+unfolding ones
+ones_none mask i n h = let e : n - i ≡ 0 = omega arith in rw e
+
 -- the seats from i on are the bits above the lowest i
 lowest : (n : ℕ) → n % 2 ≡ cond (n % 2 == 1) 1 0
 lowest n = let h : n % 2 < 2 = omega arith in grind (arith, nat_tests)

@@ -80,6 +80,14 @@ called_back r e h k o =
     stood true h = (refl, cc)
     stood false h = absurd (let z : ◌≡◌ {A = ℕ} 0 1 = cc in omega arith)
 
+-- a record that is an edit stands
+pub edit_stands : (r : EditRecord) (e : Edit) → edit_of r ≡ Ok e → stands r ≡ true
+edit_stands r e h = told (stands r) h
+  where
+    told : (b : Bool) → ok_if b (called r) ≡ Ok e → b ≡ true
+    told true h = refl
+    told false h = absurd (let z : ◌≡◌ {A = ℕ} 0 1 = cc in omega arith)
+
 pub record_back : (e : Edit) (r : EditRecord) → stands r ≡ true → called r ≡ e → edit_of r ≡ Ok e
 record_back e r s c = ok_when (stands r) (called r) s ∙ ap Ok c
 

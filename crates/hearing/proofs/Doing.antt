@@ -5,15 +5,18 @@ use Rattle.content.specs.Kinds.{Kind}
 use Rattle.content.specs.declared.refusal.Refusal.{Refusal}
 use Rattle.content.specs.declared.refusal.Refusal.TheVariants.{LastView}
 use Rattle.blocks.specs.declared.block.Block.{Block}
+use Rattle.wire.specs.declared.message.Certificate.{Certificate}
 use Rattle.state.specs.Calls.{answer_after, blocks_after, box_after, step_state}
 use Rattle.state.specs.Does.{Does}
-use Rattle.state.specs.HandIn.{idle, last_view, leaves, leaves_by, notice}
+use Rattle.state.specs.HandIn.{carried, idle, last_view, leaves, leaves_by, notice, take_in, taken}
 use Rattle.shelf.specs.declared.Shelf.{Shelf}
-use Rattle.state.specs.Sends.{Outcome, relay}
+use Rattle.state.specs.Sends.{Outcome, Sending, relay}
+use Rattle.state.specs.TakeIn.{judge_in}
 use Rattle.state.specs.Steps.{Steps}
 use Rattle.state.specs.declared.call.Call.{Call}
 use Rattle.state.specs.declared.answer.Answer.{Answer}
 use Rattle.state.specs.declared.state.State.{State}
+use Rattle.state.specs.declared.taking.Verdict.{Verdict}
 
 module _ {L S : ℕ} {R : Type 0} (k : Kind L R) {s : State S R} {bs : List (Block R)} {out : List ℕ} {a : Result Answer Refusal} {s' : State S R} {bs' : List (Block R)} {out' : List ℕ} where
   -- the model's outcome may be written in another way
@@ -41,3 +44,8 @@ module _ {S : ℕ} {R : Type 0} (s : State S R) (bs : List (Block R)) (view : �
 
   pub notice-leaves : (view ≡ last_view → ⊥) → true ≡ leaves_by s view → Ok (leaves s bs view relay) ≡ notice s bs view
   notice-leaves n h = takes (Err LastView) (Ok (leaves s bs view relay)) (Ok (idle s bs)) (leaves_by s view) n h
+
+module _ {L S : ℕ} {R : Type 0} (k : Kind L R) (s : State S R) (bs : List (Block R)) (cells : ℕ) (c : Certificate R (List ℕ)) (sending : Sending R) where
+  -- the model's taking in, by the verdict
+  pub take_in_at : (v : Result Verdict Refusal) → v ≡ judge_in k s bs cells c.block → carried (taken s bs c sending) v ≡ take_in k s bs cells c sending
+  take_in_at v e = ap (λ x. carried (taken s bs c sending) x) e

@@ -1,5 +1,5 @@
 -- Searching a list of blocks, one block at a time.
-use Rattle.std.proofs.Common.{◌≡◌, ℕ, suc, ◌+◌, ◌-◌, ◌<◌, max, true, false, cond, eqb, List, [], ◌∷◌, map, Some, None, Ok, Err, inl, inr, sym, refl, ap, ◌∙◌, arith}
+use Rattle.std.proofs.Common.{◌≡◌, ℕ, suc, ◌+◌, ◌-◌, ◌<◌, max, Bool, true, false, cond, eqb, List, [], ◌∷◌, ◌++◌, map, Some, None, Ok, Err, Option, inl, inr, sym, refl, ap, ◌∙◌, arith}
 use Rattle.std.specs.List.{filter, find as list_find, fold, reduce}
 use Rattle.std.proofs.lemmas.Bool.{cases_Bool, cond-true, cond-false}
 use Rattle.content.specs.declared.refusal.Refusal.{Refusal}
@@ -16,6 +16,17 @@ fold_max t u (x ∷ ts) = let e : max (max t u) x ≡ max t (max u x) = omega ar
 higher_one : (t : ℕ) (ts : List ℕ) → reduce max (t ∷ ts) ≡ higher t (reduce max ts)
 higher_one t [] = refl
 higher_one t (u ∷ ts) = ap Some (fold_max t u ts)
+
+-- two turns may be weighed in either order
+higher_swap : (s t : ℕ) (o : Option ℕ) → higher s (higher t o) ≡ higher t (higher s o)
+higher_swap s t None = let e : max s t ≡ max t s = omega arith in ap Some e
+higher_swap s t (Some u) = let e : max s (max t u) ≡ max t (max s u) = omega arith in ap Some e
+
+weighed_swap : (p q : Bool) (s t : ℕ) (o : Option ℕ) → cond p (higher s (cond q (higher t o) o)) (cond q (higher t o) o) ≡ cond q (higher t (cond p (higher s o) o)) (cond p (higher s o) o)
+weighed_swap true true s t o = higher_swap s t o
+weighed_swap true false s t o = refl
+weighed_swap false true s t o = refl
+weighed_swap false false s t o = refl
 
 module _ {R : Type 0} where
   -- the first block of the rank stands for it
@@ -47,6 +58,13 @@ module _ {R : Type 0} where
         | inl t ↦ rw (t, ← same_top v bs) (higher_one b.rank.turn (map (λ b. b.rank.turn) (filter (λ b. eqb b.rank.view v) bs)))
         | inr f ↦ rw f (same_top v bs)
       ]
+
+  -- the highest turn of a view, one block on
+  pub top_push : (v : ℕ) (bs : List (Block R)) (b : Block R) → top_turn v (bs ++ b ∷ []) ≡ cond (eqb b.rank.view v) (higher b.rank.turn (top_turn v bs)) (top_turn v bs)
+  unfolding top_turn
+  top_push v [] b = refl
+  top_push v (x ∷ bs) b =
+      rw (top_push v bs b) (weighed_swap (eqb x.rank.view v) (eqb b.rank.view v) x.rank.turn b.rank.turn (top_turn v bs))
 
   -- one step up, and where there is none
   pub climb-up : (k : ℕ) (bs : List (Block R)) (b p : Block R) → Ok p ≡ one_lower b.height (find b.parent bs) → climb (suc k) bs b ≡ climb k bs p

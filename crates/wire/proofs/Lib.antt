@@ -1,4 +1,5 @@
 pub mod Bodies
+pub mod Fields
 pub mod Located
 pub mod Lengths
 pub mod Made

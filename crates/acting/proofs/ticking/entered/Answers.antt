@@ -1,10 +1,10 @@
 use Rattle.std.proofs.Common.{[], length, Some, Ok, ap, ◌∙◌, rules}
 use Rattle.state.specs.declared.answer.Answer.{Answer}
-use Rattle.acting.proofs.Ticks.{entered-blames, room-blame}
+use Rattle.acting.proofs.Ticks.{entered-blames, room-blame, room-leaving}
 use Rattle.acting.proofs.ticking.entered.Goals as goal
 
 pub blame-requires : goal.blame-requires
-blame-requires g c = (search rules, (search rules, room-blame g.row.S (length c.args.call.now.outbox.now) c.args.call.now.short c.args.call.now.room))
+blame-requires g c = (search rules, (search rules, room-blame g.row.S (length c.args.call.now.outbox.now) (room-leaving g.row.S (length c.args.call.now.outbox.now) c.args.call.now.short c.args.call.now.room)))
 
 pub returns : goal.returns
 returns g c =
